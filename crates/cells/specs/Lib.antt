@@ -1,0 +1,4 @@
+pub mod Code
+pub mod Conducts
+pub mod Record
+pub mod Setting

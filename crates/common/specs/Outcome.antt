@@ -1,0 +1,52 @@
+-- How a call or a reading ends. Document 01, "Grounds for sending a job back": "A refusal is its number and a line, zeros in the
+-- whole output buffer, and 0 as value, rounds or field of a record."
+use Prim.Native.Nat.{ℕ, zero, suc}
+use mathlib.Core.Bool.{Bool, true, false}
+use mathlib.Core.List.{List, [], _∷_}
+use Rattle.common.specs.Lists.{zeros, padded}
+
+infixl 20 _then_
+infix 10 _when_
+-- what was asked for, or the number and the line of a refusal
+pub data Outcome (A : Type 0) : Type 0 where
+  done : A → Outcome A
+  refused : (number line : ℕ) → Outcome A
+
+-- a refusal stands; what is done goes on
+unfoldable pub _then_ : {A B : Type 0} → Outcome A → (A → Outcome B) → Outcome B
+done a then f = f a
+refused k l then f = refused k l
+
+-- one ground: its number, and whether it is met
+pub data Ground : Type 0 where
+  _when_ : (number : ℕ) (met : Bool) → Ground
+
+-- "the lowest number": of grounds in rising order, the number of the first that is met; 0 where none is
+unfoldable pub lowest : List Ground → ℕ
+lowest [] = 0
+lowest ((k when true) ∷ gs) = k
+lowest ((k when false) ∷ gs) = lowest gs
+
+-- what is to follow, unless there is a number: then the refusal with that number and this line
+unfoldable pub unless : {A : Type 0} → (number line : ℕ) → Outcome A → Outcome A
+unless zero line rest = rest
+unless (suc k) line rest = refused (suc k) line
+
+-- the number and the line of an outcome, 0 and 0 where nothing is refused
+unfoldable pub numberOf : {A : Type 0} → Outcome A → ℕ
+numberOf (done a) = 0
+numberOf (refused k l) = k
+
+unfoldable pub lineOf : {A : Type 0} → Outcome A → ℕ
+lineOf (done a) = 0
+lineOf (refused k l) = l
+
+-- the value of an outcome, and what stands in its place after a refusal
+unfoldable pub valueOf : {A B : Type 0} → B → (A → B) → Outcome A → B
+valueOf none f (done a) = f a
+valueOf none f (refused k l) = none
+
+-- an output buffer of n bytes: the answer's bytes and zeros past them, or zeros in the whole of it
+unfoldable pub bufferOf : {A : Type 0} → ℕ → (A → List ℕ) → Outcome A → List ℕ
+bufferOf n f (done a) = padded n (f a)
+bufferOf n f (refused k l) = zeros n

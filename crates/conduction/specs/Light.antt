@@ -1,0 +1,43 @@
+-- light's answer: crossbar and setting in; the lit wires and the rounds out.
+use Prim.Native.Nat.{ℕ, _+_, _-_}
+use mathlib.Core.Bool.{Bool, not}
+use mathlib.Core.List.{List, [], _∷_}
+use lib.Dec.{ltb}
+use Rattle.common.specs.Outcome.{Outcome, done, _when_, lowest, unless}
+use Rattle.cells.specs.declared.Crossbar.{Crossbar}
+use Rattle.cells.specs.Conducts.{joins}
+use Rattle.cells.specs.Record.{sound}
+use Rattle.cells.specs.Setting.{isSetting}
+use Rattle.conduction.specs.Round.{rounds, roundCount, atRest}
+
+-- the count of rounds, and the set at rest
+pub record Lit : Type 0 where
+  pub count : ℕ
+  pub wires : List ℕ
+
+-- whether a cell of a record conducts under a setting
+unfoldable pub joined : Crossbar → List ℕ → List ℕ → ℕ → ℕ → Bool
+joined x cells setting = joins cells (x .columns) setting
+
+-- the rounds of a crossbar under a setting
+unfoldable pub litBy : Crossbar → List ℕ → List ℕ → Lit
+litBy x cells setting =
+    record {
+      count = roundCount (x .rows) (x .columns) (joined x cells setting);
+      wires =
+          rounds (x .rows) (x .columns) (joined x cells setting) (roundCount (x .rows) (x .columns) (joined x cells setting));
+    }
+
+-- record, cells, setting and the length of the output buffer in. "Light checks 12, 13, 14, 15", line 0. Ground 15: "A further round
+-- would still add a wire after R + C − 1 rounds."
+unfoldable pub light : Crossbar → List ℕ → List ℕ → ℕ → Outcome Lit
+light x cells setting room =
+    unless
+    (lowest
+    ((12 when not (sound x cells))
+    ∷ (13 when not (isSetting (x .switches) setting))
+    ∷ (14 when ltb room (x .rows + x .columns))
+    ∷ (15 when not (atRest (x .rows) (x .columns) (joined x cells setting) (x .rows + x .columns - 1)))
+    ∷ []))
+    0
+    (done (litBy x cells setting))

@@ -1,0 +1,40 @@
+-- Document 01, "Conduction": the rounds. R and C are the numbers of rows and columns, m and n here, and joined r c says whether the cell at
+-- row r and column c conducts. A set of lit wires is one byte a wire, rows then columns, 1 lit, 0 dark.
+use Prim.Native.Nat.{ℕ, zero, suc, _+_, _-_}
+use mathlib.Core.Bool.{Bool, true, false, _&&_, _||_}
+use mathlib.Core.List.{List, _++_}
+use lib.ListN.{getD}
+use lib.Dec.{eqb}
+use Rattle.common.specs.Lists.{bit, tab, some-below, same}
+
+-- whether a set has a wire
+unfoldable pub lit : List ℕ → ℕ → Bool
+lit set w = eqb (getD set w 0) 1
+
+-- "Before round 1 only row 0 is lit."
+unfoldable pub start : ℕ → ℕ → List ℕ
+start m n = tab (m + n) (λ w. bit (eqb w 0))
+
+-- "Each round keeps every lit wire and adds each wire that a conducting cell joins to a wire lit before the round"
+unfoldable pub round : ℕ → ℕ → (ℕ → ℕ → Bool) → List ℕ → List ℕ
+round m n joined set =
+    tab m (λ r. bit (lit set r || some-below n (λ c. joined r c && lit set (m + c))))
+    ++ tab n (λ c. bit (lit set (m + c) || some-below m (λ r. joined r c && lit set r)))
+
+-- the set after t rounds
+unfoldable pub rounds : ℕ → ℕ → (ℕ → ℕ → Bool) → ℕ → List ℕ
+rounds m n joined zero = start m n
+rounds m n joined (suc t) = round m n joined (rounds m n joined t)
+
+-- whether the sets after t and t + 1 rounds are equal
+unfoldable pub atRest : ℕ → ℕ → (ℕ → ℕ → Bool) → ℕ → Bool
+atRest m n joined t = same (rounds m n joined t) (rounds m n joined (suc t))
+
+-- the least such t from t on, looked for in k + 1 places at the most
+unfoldable pub firstRest : ℕ → ℕ → (ℕ → ℕ → Bool) → ℕ → ℕ → ℕ
+firstRest m n joined zero t = t
+firstRest m n joined (suc k) t = elim (atRest m n joined t) [ true ↦ t | false ↦ firstRest m n joined k (suc t) ]
+
+-- "the count of rounds is .. the least t with the sets after t and t + 1 rounds equal. It is at most R + C − 1."
+unfoldable pub roundCount : ℕ → ℕ → (ℕ → ℕ → Bool) → ℕ
+roundCount m n joined = firstRest m n joined (m + n - 1) 0

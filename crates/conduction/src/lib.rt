@@ -1,0 +1,1 @@
+// Conduction: rounds of light through a crossbar.

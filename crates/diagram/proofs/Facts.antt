@@ -1,0 +1,51 @@
+-- What holds of a diagram whose lines break none of grounds 3 to 9, as plain facts. The theorems use these; the reader's tests give
+-- them.
+use Prim.Native.Nat.{ℕ, _≤_, _<_}
+use mathlib.Core.Path.{_≡_}
+use mathlib.Core.Logic.{_⊎_}
+use mathlib.Core.Bool.{Bool, false}
+use mathlib.Core.List.{List}
+use lib.ListN.{length, getD}
+use Rattle.common.specs.Limits.{maxRows, maxColumns, maxSwitches, maxNodes, maxOutputs}
+use Rattle.diagram.specs.Diagram.{Diagram, idCount, switchAt, lowAt, highAt, labelAt}
+use Rattle.diagram.specs.Faults.{alike}
+use Rattle.diagram.specs.Wires.{rowCount, columnCount}
+
+-- of a node: grounds 4 to 7 and 9
+pub record NodeFacts (d : Diagram) (i : ℕ) : Type 0 where
+  pub tests : switchAt d i < d .switches
+  pub low-below : lowAt d i < i
+  pub high-below : highAt d i < i
+  pub low-later : switchAt d i < switchAt d (lowAt d i)
+  pub high-later : switchAt d i < switchAt d (highAt d i)
+  pub children-differ : lowAt d i ≡ highAt d i → ⊥
+  pub label-least : 1 ≤ labelAt d i
+  pub label-most : labelAt d i ≤ 3
+  pub low-unlike : alike (labelAt d i) (labelAt d (lowAt d i)) ≡ false
+  pub high-unlike : alike (labelAt d i) (labelAt d (highAt d i)) ≡ false
+
+-- of a diagram
+pub record Facts (d : Diagram) : Type 0 where
+  pub one-label : (d .one ≡ 1) ⊎ (d .one ≡ 3)
+  pub node : (i : ℕ) → 2 ≤ i → i < idCount d → NodeFacts d i
+  pub distinct :
+      (i k : ℕ)
+      → 2 ≤ i
+      → i < idCount d
+      → 2 ≤ k
+      → k < idCount d
+      → switchAt d i ≡ switchAt d k
+      → lowAt d i ≡ lowAt d k
+      → highAt d i ≡ highAt d k
+      → i ≡ k
+  pub outs-named : (j : ℕ) → j < length (d .outs) → getD (d .outs) j 0 < idCount d
+  pub outs-in-rows : (j : ℕ) → j < length (d .outs) → labelAt d (getD (d .outs) j 0) ≡ 2 → ⊥
+
+-- of the sizes: grounds 2 and 11
+pub record Sizes (d : Diagram) : Type 0 where
+  pub switches-most : d .switches ≤ maxSwitches
+  pub nodes-most : length (d .nodes) ≤ maxNodes
+  pub outs-least : 1 ≤ length (d .outs)
+  pub outs-most : length (d .outs) ≤ maxOutputs
+  pub rows-most : rowCount d ≤ maxRows
+  pub columns-most : columnCount d ≤ maxColumns

@@ -1,0 +1,4 @@
+pub mod Diagram
+pub mod Walk
+pub mod Wires
+pub mod Faults

@@ -1,0 +1,26 @@
+-- Document 01, "Job text": "The diagram walk goes from a node to the child its switch selects, until a terminal; children always
+-- have lower ids."
+use Prim.Native.Nat.{ℕ, zero, suc}
+use mathlib.Core.Bool.{Bool, true, false}
+use mathlib.Core.List.{List}
+use lib.ListN.{length, getD}
+use lib.Dec.{eqb}
+use Rattle.common.specs.Lists.{bit}
+use Rattle.diagram.specs.Diagram.{Diagram, switchAt, lowAt, highAt}
+
+-- one step: L is taken when the switch is 0, H when it is 1. A terminal is its own child, so the walk stays there.
+unfoldable pub step : Diagram → List ℕ → ℕ → ℕ
+step d setting i = elim (eqb (getD setting (switchAt d i) 0) 1) [ true ↦ highAt d i | false ↦ lowAt d i ]
+
+-- where n steps lead
+unfoldable pub steps : Diagram → List ℕ → ℕ → ℕ → ℕ
+steps d setting zero i = i
+steps d setting (suc n) i = steps d setting n (step d setting i)
+
+-- the terminal at which the walk from an id ends: each step falls, so N steps come to a terminal from any id up to N + 1
+unfoldable pub walkEnd : Diagram → List ℕ → ℕ → ℕ
+walkEnd d setting i = steps d setting (length (d .nodes)) i
+
+-- "the diagram's value, 0 or 1": 1 when the walk ends at terminal 1
+unfoldable pub walkValue : Diagram → List ℕ → ℕ → ℕ
+walkValue d setting i = bit (eqb (walkEnd d setting i) 1)

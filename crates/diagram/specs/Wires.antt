@@ -1,0 +1,51 @@
+-- Document 01, "Placement": which ids have a row and a column, and how rows and columns are numbered.
+use Prim.Native.Nat.{ℕ, zero, suc, _+_}
+use mathlib.Core.Bool.{Bool, true, false, _||_}
+use mathlib.Core.List.{List, [], _∷_, _++_}
+use lib.ListN.{length, getD}
+use lib.Dec.{eqb, ltb}
+use Rattle.common.specs.Limits.{maxRows, maxColumns}
+use Rattle.common.specs.Lists.{bit, any-of}
+use Rattle.diagram.specs.Diagram.{Diagram, idCount, labelAt}
+
+-- "Labels T: `h` a row, `v` a column, `b` both." "Terminal 0 has no wire": it has no label.
+unfoldable pub hasRow : Diagram → ℕ → Bool
+hasRow d i = eqb (labelAt d i) 1 || eqb (labelAt d i) 3
+
+unfoldable pub hasColumn : Diagram → ℕ → Bool
+hasColumn d i = eqb (labelAt d i) 2 || eqb (labelAt d i) 3
+
+-- the ids below n of which has holds, in rising order
+unfoldable pub owners : (ℕ → Bool) → ℕ → List ℕ
+owners has zero = []
+owners has (suc i) = elim (has i) [ true ↦ owners has i ++ (i ∷ []) | false ↦ owners has i ]
+
+-- "Row 0 belongs to terminal 1 .. Nodes labelled `h` or `b` take the next rows in rising id." "Columns go to `b` terminal 1 first,
+-- then to `v` and `b` nodes in rising id."
+unfoldable pub rowOwners : Diagram → List ℕ
+rowOwners d = owners (hasRow d) (idCount d)
+
+unfoldable pub columnOwners : Diagram → List ℕ
+columnOwners d = owners (hasColumn d) (idCount d)
+
+-- so the wire of an id has as its number how many ids before it have one
+unfoldable pub rowOf : Diagram → ℕ → ℕ
+rowOf d i = length (owners (hasRow d) i)
+
+unfoldable pub columnOf : Diagram → ℕ → ℕ
+columnOf d i = length (owners (hasColumn d) i)
+
+-- "If any output names 0, one last row without cells serves all such outputs."
+unfoldable pub namesZero : Diagram → Bool
+namesZero d = any-of (λ i. eqb i 0) (d .outs)
+
+-- R and C
+unfoldable pub rowCount : Diagram → ℕ
+rowCount d = length (rowOwners d) + bit (namesZero d)
+
+unfoldable pub columnCount : Diagram → ℕ
+columnCount d = length (columnOwners d)
+
+-- Ground 11: "R or C exceeds 128"
+unfoldable pub tooLarge : Diagram → Bool
+tooLarge d = ltb maxRows (rowCount d) || ltb maxColumns (columnCount d)

@@ -1,0 +1,1 @@
+// Figures, words and lines in bytes.

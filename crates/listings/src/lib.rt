@@ -1,0 +1,1 @@
+// Listings: a crossbar's text, printed and loaded.

@@ -1,0 +1,1 @@
+// Placement: from a job to its crossbar.
