@@ -1,4 +1,9 @@
-// A cell, its code, and the crossbar record.
+// A cell, its code, when it conducts, and the crossbar record.
+use common::MAX_OUTPUTS;
+ghost use mathlib.Core.Path.{_≡_};
+ghost use lib.ListN.{getD};
+ghost use Rattle.cells.specs.Code.{codeOf, cellOf};
+ghost use Rattle.cells.specs.Conducts.{conducts};
 
 // Document 01, "Placement": "A cell is off, on, or passes when a switch is 1 or 0."
 pub enum Cell {
@@ -8,6 +13,66 @@ pub enum Cell {
     No(u8),
 }
 
+// Document 01, "Placement": "Cell codes: off 0, on 1, yes x 2 + 2·x, no x 3 + 2·x."
+impl Cell {
+    pub const OFF: u8 = 0;
+
+    pub const ON: u8 = 1;
+    // The codes of switch 0; those of switch x are 2·x more.
+    pub const YES: u8 = 2;
+
+    pub const NO: u8 = 3;
+
+    // The cell of a code. Cells are stored as bytes, and each byte is the code of a cell.
+    pub fn from_code(code: u8) -> Cell
+        ensures { λ r. ⌜ r ≡ cellOf code ⌝ }
+    {
+        if code == Cell::OFF {
+            return Cell::Off;
+        }
+        if code == Cell::ON {
+            return Cell::On;
+        }
+        if code % 2 == 0 {
+            Cell::Yes((code - Cell::YES) / 2)
+        } else {
+            Cell::No((code - Cell::NO) / 2)
+        }
+    }
+
+    // The code of a cell. A switch above 126 has a code past a byte, so the code is 16 bits wide.
+    pub fn to_code(self) -> u16
+        ensures { λ r. ⌜ r ≡ codeOf self ⌝ }
+    {
+        match self {
+            Cell::Off => Cell::OFF as u16,
+            Cell::On => Cell::ON as u16,
+            Cell::Yes(x) => Cell::YES as u16 + 2 * (x as u16),
+            Cell::No(x) => Cell::NO as u16 + 2 * (x as u16),
+        }
+    }
+}
+
+// Document 01, "What an output reads": whether a cell conducts under a setting. A switch past the setting's end reads as 0.
+pub fn conducts(cell: Cell, setting: &[u8]) -> bool
+    ensures { λ r. ⌜ r ≡ conducts (now (setting .entry)) cell ⌝ }
+{
+    match cell {
+        Cell::Off => false,
+        Cell::On => true,
+        Cell::Yes(x) => switch_at(setting, x) == 1,
+        Cell::No(x) => switch_at(setting, x) == 0,
+    }
+}
+
+// The value of a switch, 0 past the setting's end.
+fn switch_at(setting: &[u8], x: u8) -> u8
+    ensures { λ r. ⌜ r ≡ getD (now (setting .entry)) x 0 ⌝ }
+{
+    let i = x as usize;
+    if i < setting.len() { setting[i] } else { 0 }
+}
+
 // Document 01, "Placement": "The crossbar record holds R, C, V, K and 32 output rows, the unused ones 0." The fields are
 // R, C, V and K, and outs holds the output rows.
 pub struct Crossbar {
@@ -15,5 +80,5 @@ pub struct Crossbar {
     pub columns: u16,
     pub switches: u16,
     pub outputs: u16,
-    pub outs: [u16; 32],
+    pub outs: [u16; MAX_OUTPUTS],
 }

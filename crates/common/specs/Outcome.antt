@@ -3,6 +3,7 @@
 use Prim.Native.Nat.{ℕ, zero, suc}
 use mathlib.Core.Bool.{Bool, true, false}
 use mathlib.Core.List.{List, [], _∷_}
+use Rattle.common.specs.declared.Refusal.{Refusal}
 use Rattle.common.specs.Lists.{zeros, padded}
 
 infixl 20 _then_
@@ -40,6 +41,10 @@ numberOf (refused k l) = k
 unfoldable pub lineOf : {A : Type 0} → Outcome A → ℕ
 lineOf (done a) = 0
 lineOf (refused k l) = l
+
+-- the refusal of an outcome, as the calls hand it over
+unfoldable pub refusalOf : {A : Type 0} → Outcome A → Refusal
+refusalOf o = record { number = numberOf o; line = lineOf o }
 
 -- the value of an outcome, and what stands in its place after a refusal
 unfoldable pub valueOf : {A B : Type 0} → B → (A → B) → Outcome A → B

@@ -1,16 +1,32 @@
-// What every layer shares: the limits of document 01, and the refusal.
+// What every layer shares: the limits of document 01, the refusal, and a buffer of zeros.
+ghost use mathlib.Core.Path.{_≡_};
+ghost use lib.ListN.{length};
+ghost use Rattle.common.specs.Lists.{zeros};
 
 // Document 01, "Listing" and ground 11: the most rows, and the most columns, of a crossbar.
-pub const MAX_WIRES: u16 = 128;
+pub const MAX_ROWS: usize = 128;
+
+pub const MAX_COLUMNS: usize = 128;
 // Document 01, "Job text": the most switches, nodes and outputs of a job.
-pub const MAX_SWITCHES: u16 = 64;
+pub const MAX_SWITCHES: usize = 64;
 
-pub const MAX_NODES: u16 = 254;
+pub const MAX_NODES: usize = 254;
 
-pub const MAX_OUTPUTS: u16 = 32;
+pub const MAX_OUTPUTS: usize = 32;
 
 // Document 01, "Grounds for sending a job back": a refusal is its number and a line. Number 0 is no refusal.
 pub struct Refusal {
     pub number: u32,
     pub line: u32,
+}
+
+// "zeros in the whole output buffer"
+pub fn clear(out: &mut [u8])
+    ensures { λ r. ⌜ now (out .exit) ≡ zeros (length (now (out .entry))) ⌝ }
+{
+    let mut i = 0;
+    while i < out.len() {
+        out[i] = 0;
+        i += 1;
+    }
 }

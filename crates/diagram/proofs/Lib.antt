@@ -1,1 +1,4 @@
+pub mod Canonical
 pub mod Facts
+pub mod Valid
+pub mod Walk

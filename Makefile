@@ -1,0 +1,5 @@
+# make test: the gate, from nothing.
+.PHONY: test
+
+test:
+	bash .ci/run

@@ -1,0 +1,2 @@
+pub mod Figure
+pub mod Line
