@@ -2,3 +2,4 @@ pub mod Diagram
 pub mod Walk
 pub mod Wires
 pub mod Faults
+pub mod Stored
