@@ -3,7 +3,7 @@ use Prim.Native.Nat.{ℕ, zero, suc, _+_, _-_, _*_, _≤_, _<_}
 use mathlib.Core.Path.{_≡_, refl, sym, ap, _∙_}
 use mathlib.Core.Logic.{_⊎_, inl, inr, ⊎-elim}
 use mathlib.Core.Bool.{Bool, true, false, _&&_, _||_}
-use mathlib.Core.List.{List, [], _∷_, _++_}
+use mathlib.Core.List.{List, [], _∷_, _++_, map}
 use native.Mathlib.Omega.{arith}
 use native.Mathlib.Nat.{eq-or-lt-of-le, mul-le-mul-right, zero-mul}
 use lib.ListN.{length, getD, take, drop, replicate, length-append, length-replicate, List·getD-append}
@@ -173,3 +173,9 @@ length-padded n s h = simp (length-append, length-replicate) (omega arith)
 pub getD-padded : (n : ℕ) (s : List ℕ) (i d : ℕ) → i < length s → getD (padded n s) i d ≡ getD s i d
 unfolding padded
 getD-padded n s i d h = List·getD-append s (zeros (n - length s)) d i h
+
+-- an entry of a list whose entries were all put through a function
+pub getD-map-at : (f : ℕ → ℕ) (l : List ℕ) (i d e : ℕ) → i < length l → getD (map f l) i d ≡ f (getD l i e)
+getD-map-at f [] i d e h = absurd (omega arith)
+getD-map-at f (a ∷ l) zero d e h = refl
+getD-map-at f (a ∷ l) (suc i) d e h = getD-map-at f l i d e (omega arith)

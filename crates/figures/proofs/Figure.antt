@@ -2,17 +2,17 @@
 -- write the number. Assumes nothing.
 use Prim.Native.Nat.{ℕ, zero, suc, _+_, _-_, _*_, _/_, _%_, _≤_, _<_}
 use mathlib.Core.Path.{_≡_, refl, sym, ap, _∙_}
-use mathlib.Core.Logic.{_⊎_, inl, inr, ⊎-elim}
-use mathlib.Core.Bool.{Bool, true, false, not, _&&_, _||_}
-use mathlib.Core.Option.{Option, some, none}
+use mathlib.Core.Logic.{⊎-elim}
+use mathlib.Core.Bool.{Bool, true, false, not, _||_}
+use mathlib.Core.Option.{some, none}
 use mathlib.Core.List.{List, [], _∷_, _++_, append-nil}
 use native.Mathlib.Omega.{arith}
 use lib.ListN.{length, drop}
 use lib.Seq.{drop-at}
-use lib.Dec.{eqb, leb, ltb, eqb·suc-zero}
-use borrow.Author.Tests.{ltb-true, ltb-false, leb-true, le-leb, eqb-true, eqb-false, ne-eqb, lt-ltb, le-ltb, not-true}
+use lib.Dec.{eqb, leb, eqb·suc-zero}
+use borrow.Author.Tests.{leb-true, le-leb, ne-eqb, lt-ltb, le-ltb, not-true}
 use Rattle.common.specs.Lists.{all-of}
-use Rattle.common.proofs.Lists.{by-test, and-left, and-right, and-both, or-cases, or-left, or-right, true-or-false, below-or-not}
+use Rattle.common.proofs.Lists.{by-test, and-left, and-right, and-both, or-right, true-or-false, below-or-not}
 use Rattle.figures.specs.Figure.{isDigit, digitsOf, isFigure, numberFrom, Figured, takeFigure, digits, decimal}
 
 -- whether a text does not begin with a digit
@@ -67,7 +67,7 @@ pub decimal-bytes : (n : ℕ) → n < 100000 → all-of isDigit (decimal n) ≡ 
 unfolding decimal all-of
 decimal-bytes n h = digits-bytes 5 n [] refl
 
--- the digits write the number
+-- one digit more
 number-next : (m b n : ℕ) (s : List ℕ) → m * 10 + (b - 48) ≡ n → numberFrom m (b ∷ s) ≡ numberFrom n s
 unfolding numberFrom
 number-next m b n s e = rw e
@@ -76,6 +76,7 @@ digits-none : (n : ℕ) (s : List ℕ) → digits zero n s ≡ s
 unfolding digits
 digits-none n s = refl
 
+-- the digits write the number
 digits-number : (k n : ℕ) (s : List ℕ) → n < tenTo k → numberFrom 0 (digits k n s) ≡ numberFrom n s
 unfolding tenTo
 digits-number zero n s h = let e : n ≡ 0 = omega arith in rw (e, digits-none 0 s)
@@ -132,6 +133,15 @@ decimal-figure (suc n) h =
     lead-figure (digits 5 (suc n) [])
     (unfold tenTo in digits-lead 5 (suc n) [] (omega arith) h)
     (digits-length 5 (suc n) [])
+
+-- a decimal has 1 to 5 digits
+figure-some : (ds : List ℕ) → isFigure ds ≡ true → 1 ≤ length ds
+unfolding isFigure
+figure-some [] f = absurd (let z : _≡_ {A = ℕ} 0 1 = cc in omega arith)
+figure-some (b ∷ ds) f = omega arith
+
+pub decimal-length : (n : ℕ) → n < 100000 → (1 ≤ length (decimal n)) × (length (decimal n) ≤ 5)
+decimal-length n h = (figure-some (decimal n) (decimal-figure n h), unfold decimal in digits-length 5 n [])
 
 -- all the digits in front of a text that begins with none are the digits that the whole begins with
 digitsOf-digit : (b : ℕ) (s : List ℕ) → isDigit b ≡ true → digitsOf (b ∷ s) ≡ b ∷ digitsOf s

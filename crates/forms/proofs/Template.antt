@@ -4,7 +4,7 @@ use Prim.Native.Nat.{ℕ, zero, suc, _+_, _≤_, _<_}
 use Prim.Native.String.{String}
 use mathlib.Core.Path.{_≡_, refl, sym, ap, _∙_}
 use mathlib.Core.Logic.{_⊎_, inl, inr, ⊎-elim}
-use mathlib.Core.Bool.{Bool, true, false, not, _&&_}
+use mathlib.Core.Bool.{Bool, true, false, not, _&&_, _||_}
 use mathlib.Core.Option.{Option, some, none, Option·map}
 use mathlib.Core.List.{List, [], _∷_, _++_, append-assoc}
 use native.Mathlib.Omega.{arith}
@@ -12,14 +12,14 @@ use lib.ListN.{length, getD, drop}
 use lib.Seq.{getD-drop, drop-drop}
 use lib.Dec.{eqb}
 use borrow.Author.Tests.{eqb-true, eqb-false, eq-eqb, ne-eqb, not-true}
-use Rattle.common.specs.Lists.{all-of}
+use Rattle.common.specs.Lists.{all-of, same}
 use Rattle.common.specs.Outcome.{Outcome, done, refused}
-use Rattle.common.proofs.Lists.{by-test, and-left, and-right, and-both, below-or-not}
+use Rattle.common.proofs.Lists.{by-test, and-left, and-right, and-both, or-cases, true-or-false, below-or-not, same-eq}
 use Rattle.figures.specs.Bytes.{bytes, after}
 use Rattle.figures.specs.Figure.{Figured, isDigit, takeFigure, decimal}
 use Rattle.figures.specs.Line.{Lines, left, _⏎_, linesOf}
 use Rattle.figures.proofs.Figure.{noDigit, takes-decimal, decimal-taken, decimal-bytes, digit-range}
-use Rattle.figures.proofs.Line.{oneLine, First, first-line, lines-first}
+use Rattle.figures.proofs.Line.{oneLine, first-line, lines-first}
 use Rattle.forms.specs.Template.{Template, Item, word, figure, label, labelOf, letterOf, values, written, line}
 use Rattle.forms.specs.Due.{Taken, due}
 use Rattle.forms.specs.Forms.{
@@ -132,24 +132,29 @@ unfolding setForm apart bytes oneLine all-of
 set-apart n = set-figures-apart n
 
 -- a word is taken from the front of a text just where it stands there
-after-front : (w s : List ℕ) → after w (w ++ s) ≡ some s
+after-same : (a b : ℕ) (w s : List ℕ) → eqb a b ≡ true → after (a ∷ w) (b ∷ s) ≡ after w s
 unfolding after
-after-front [] s = refl
-after-front (a ∷ w) s = rw (eq-eqb a a refl, after) (after-front w s)
+after-same a b w s h = rw (h, after)
+
+after-other : (a b : ℕ) (w s : List ℕ) → eqb a b ≡ false → after (a ∷ w) (b ∷ s) ≡ none
+unfolding after
+after-other a b w s h = rw (h, after)
+
+after-front : (w s : List ℕ) → after w (w ++ s) ≡ some s
+after-front [] s = unfold after in refl
+after-front (a ∷ w) s = after-same a a w (w ++ s) (eq-eqb a a refl) ∙ after-front w s
 
 after-taken : (w s r : List ℕ) → after w s ≡ some r → s ≡ w ++ r
-unfolding after
-after-taken [] s r h = cc
-after-taken (a ∷ w) [] r h = absurd (let z : _≡_ {A = ℕ} 0 1 = cc in omega arith)
+after-taken [] s r h = unfold after in cc
+after-taken (a ∷ w) [] r h = unfold after in absurd (let z : _≡_ {A = ℕ} 0 1 = cc in omega arith)
 after-taken (a ∷ w) (b ∷ s) r h =
     ⊎-elim
     (λ (e : eqb a b ≡ true).
-    let g : after w s ≡ some r = rw (e, after) at h in
-    let p = after-taken w s r g in
+    let p = after-taken w s r (sym (after-same a b w s e) ∙ h) in
     let q = eqb-true a b e in
     cc)
     (λ (e : eqb a b ≡ false).
-    let g : none ≡ some r = rw (e, after) at h in
+    let g = after-other a b w s e in
     absurd (let z : _≡_ {A = ℕ} 0 1 = cc in omega arith))
     (by-test (eqb a b))
 
@@ -193,7 +198,7 @@ label-letter b h =
     (λ (e : b ≡ 98). rw e (refl, omega arith, omega arith)))
     (label-cases b h)
 
--- the step of a template at each item, forth and back
+-- the step of a template at each item, and what its values say of that item
 values-word : (w : String) (t : Template) (s r : List ℕ) → after (bytes w) s ≡ some r → values (word w ∷ t) s ≡ values t r
 unfolding values
 values-word w t s r h = rw (h, values)
@@ -275,6 +280,28 @@ closes-written (word w ∷ t) vs h = parts-front (bytes w) (written t vs) h
 closes-written (figure ∷ t) vs h = absurd (let z : _≡_ {A = ℕ} 0 1 = cc in omega arith)
 closes-written (label ∷ t) vs h = absurd (let z : _≡_ {A = ℕ} 0 1 = cc in omega arith)
 
+-- a figure or a label in front, read by a template that begins so
+figure-front :
+    (t u : Template) (v : ℕ) (vs : List ℕ)
+    → apart (figure ∷ t) ≡ true
+    → v < 100000
+    → values (figure ∷ u) (decimal v ++ written t vs) ≡ Option·map (λ us. v ∷ us) (values u (written t vs))
+unfolding apart
+figure-front t u v vs a p =
+    values-figure u (decimal v ++ written t vs) (record { figure = v; rest = written t vs })
+    (takes-decimal v (written t vs) p (closes-written t vs (and-left (closes t) (apart t) a)))
+
+label-front :
+    (t u : Template) (v : ℕ) (vs : List ℕ)
+    → 1 ≤ v
+    → v ≤ 3
+    → values (label ∷ u) (letterOf v ∷ written t vs) ≡ Option·map (λ us. v ∷ us) (values u (written t vs))
+label-front t u v vs low high =
+    let e = letter-label v low high in
+    let n : eqb (labelOf (letterOf v)) 0 ≡ false =
+    ne-eqb (labelOf (letterOf v)) 0 (λ (z : labelOf (letterOf v) ≡ 0). omega arith) in
+    values-label u (letterOf v) (written t vs) n ∙ rw e
+
 pub values-written : (t : Template) (vs : List ℕ) → apart t ≡ true → Fits t vs → values t (written t vs) ≡ some vs
 unfolding Fits apart written
 values-written [] [] a f = unfold values in refl
@@ -284,16 +311,9 @@ values-written (word w ∷ t) vs a f =
     ∙ values-written t vs (and-right (oneLine (bytes w)) (apart t) a) f
 values-written (figure ∷ t) [] a f = absurd f
 values-written (figure ∷ t) (v ∷ vs) a f =
-    let c = closes-written t vs (and-left (closes t) (apart t) a) in
-    values-figure t (decimal v ++ written t vs) (record { figure = v; rest = written t vs })
-    (takes-decimal v (written t vs) (f .0) c)
-    ∙ rw (values-written t vs (and-right (closes t) (apart t) a) (f .1))
+    figure-front t t v vs a (f .0) ∙ rw (values-written t vs (and-right (closes t) (apart t) a) (f .1))
 values-written (label ∷ t) [] a f = absurd f
-values-written (label ∷ t) (v ∷ vs) a f =
-    let low : 1 ≤ v = f .0 in
-    let e = letter-label v low (f .1) in
-    let n : eqb (labelOf (letterOf v)) 0 ≡ false = ne-eqb (labelOf (letterOf v)) 0 (λ (z : labelOf (letterOf v) ≡ 0). omega arith) in
-    values-label t (letterOf v) (written t vs) n ∙ rw (values-written t vs a (f .2), e)
+values-written (label ∷ t) (v ∷ vs) a f = label-front t t v vs (f .0) (f .1) ∙ rw (values-written t vs a (f .2))
 
 pub written-values : (t : Template) (l vs : List ℕ) → values t l ≡ some vs → (l ≡ written t vs) × Fits t vs
 unfolding Fits written
@@ -394,6 +414,9 @@ due-line t n (l ⏎ ls) o h =
     let d = due-from n (values t l) ls o h in
     (l, ap (λ (ms : Lines). l ⏎ ms) (d .1), d .0)
 
+pub due-fits : (t : Template) (n : ℕ) (ls : Lines) (o : Taken) → due t n ls ≡ done o → Fits t (o .vals)
+due-fits t n ls o h = let d = due-line t n ls o h in written-values t (d .0) (o .vals) (d .2) .1
+
 -- the line due, where a text begins with it
 pub due-written :
     (t : Template) (vs : List ℕ) (n : ℕ) (s : List ℕ)
@@ -476,7 +499,8 @@ fits-within t vs f = fits-from t vs vs 0 refl f .1
 pub job-values :
     (vs : List ℕ)
     → Fits jobForm vs
-    → (vs ≡ getD vs 0 0 ∷ getD vs 1 0 ∷ getD vs 2 0 ∷ []) × (getD vs 0 0 < 100000) × (getD vs 1 0 < 100000) × (getD vs 2 0 < 100000)
+    → (vs ≡ getD vs 0 0 ∷ getD vs 1 0 ∷ getD vs 2 0 ∷ [])
+    × (getD vs 0 0 < 100000) × (getD vs 1 0 < 100000) × (getD vs 2 0 < 100000)
 unfolding entries Within jobForm
 job-values vs f = let w = fits-within jobForm vs f in (fits-entries jobForm vs f, w .0, w .1 .0, w .1 .1 .0)
 
@@ -498,11 +522,23 @@ one-fits a low high = (low, high, tt)
 pub node-values :
     (vs : List ℕ)
     → Fits nodeForm vs
-    → (vs ≡ getD vs 0 0 ∷ getD vs 1 0 ∷ getD vs 2 0 ∷ getD vs 3 0 ∷ getD vs 4 0 ∷ []) × (getD vs 0 0 < 100000) × (getD vs 1 0 < 100000) × (getD vs 2 0 < 100000) × (getD vs 3 0 < 100000) × (1 ≤ getD vs 4 0) × (getD vs 4 0 ≤ 3)
+    → (vs ≡ getD vs 0 0 ∷ getD vs 1 0 ∷ getD vs 2 0 ∷ getD vs 3 0 ∷ getD vs 4 0 ∷ [])
+    × (getD vs 0 0 < 100000) × (getD vs 1 0 < 100000) × (getD vs 2 0 < 100000) × (getD vs 3 0 < 100000)
+    × (1 ≤ getD vs 4 0) × (getD vs 4 0 ≤ 3)
 unfolding entries Within nodeForm
-node-values vs f = let w = fits-within nodeForm vs f in (fits-entries nodeForm vs f, w .0, w .1 .0, w .1 .1 .0, w .1 .1 .1 .0, w .1 .1 .1 .1 .0, w .1 .1 .1 .1 .1)
+node-values vs f =
+    let w = fits-within nodeForm vs f in
+    (fits-entries nodeForm vs f, w .0, w .1 .0, w .1 .1 .0, w .1 .1 .1 .0, w .1 .1 .1 .1 .0, w .1 .1 .1 .1 .1)
 
-pub node-fits : (a b c d e : ℕ) → a < 100000 → b < 100000 → c < 100000 → d < 100000 → 1 ≤ e → e ≤ 3 → Fits nodeForm (a ∷ b ∷ c ∷ d ∷ e ∷ [])
+pub node-fits :
+    (a b c d e : ℕ)
+    → a < 100000
+    → b < 100000
+    → c < 100000
+    → d < 100000
+    → 1 ≤ e
+    → e ≤ 3
+    → Fits nodeForm (a ∷ b ∷ c ∷ d ∷ e ∷ [])
 unfolding Fits nodeForm
 node-fits a b c d e pa pb pc pd low high = (pa, (pb, (pc, (pd, (low, high, tt)))))
 
@@ -528,11 +564,20 @@ end-fits = tt
 pub crossbar-values :
     (vs : List ℕ)
     → Fits crossbarForm vs
-    → (vs ≡ getD vs 0 0 ∷ getD vs 1 0 ∷ getD vs 2 0 ∷ getD vs 3 0 ∷ []) × (getD vs 0 0 < 100000) × (getD vs 1 0 < 100000) × (getD vs 2 0 < 100000) × (getD vs 3 0 < 100000)
+    → (vs ≡ getD vs 0 0 ∷ getD vs 1 0 ∷ getD vs 2 0 ∷ getD vs 3 0 ∷ [])
+    × (getD vs 0 0 < 100000) × (getD vs 1 0 < 100000) × (getD vs 2 0 < 100000) × (getD vs 3 0 < 100000)
 unfolding entries Within crossbarForm
-crossbar-values vs f = let w = fits-within crossbarForm vs f in (fits-entries crossbarForm vs f, w .0, w .1 .0, w .1 .1 .0, w .1 .1 .1 .0)
+crossbar-values vs f =
+    let w = fits-within crossbarForm vs f in
+    (fits-entries crossbarForm vs f, w .0, w .1 .0, w .1 .1 .0, w .1 .1 .1 .0)
 
-pub crossbar-fits : (a b c d : ℕ) → a < 100000 → b < 100000 → c < 100000 → d < 100000 → Fits crossbarForm (a ∷ b ∷ c ∷ d ∷ [])
+pub crossbar-fits :
+    (a b c d : ℕ)
+    → a < 100000
+    → b < 100000
+    → c < 100000
+    → d < 100000
+    → Fits crossbarForm (a ∷ b ∷ c ∷ d ∷ [])
 unfolding Fits crossbarForm
 crossbar-fits a b c d pa pb pc pd = (pa, (pb, (pc, (pd, tt))))
 
@@ -550,7 +595,8 @@ on-fits a b pa pb = (pa, (pb, tt))
 pub yes-values :
     (vs : List ℕ)
     → Fits yesForm vs
-    → (vs ≡ getD vs 0 0 ∷ getD vs 1 0 ∷ getD vs 2 0 ∷ []) × (getD vs 0 0 < 100000) × (getD vs 1 0 < 100000) × (getD vs 2 0 < 100000)
+    → (vs ≡ getD vs 0 0 ∷ getD vs 1 0 ∷ getD vs 2 0 ∷ [])
+    × (getD vs 0 0 < 100000) × (getD vs 1 0 < 100000) × (getD vs 2 0 < 100000)
 unfolding entries Within yesForm
 yes-values vs f = let w = fits-within yesForm vs f in (fits-entries yesForm vs f, w .0, w .1 .0, w .1 .1 .0)
 
@@ -561,7 +607,8 @@ yes-fits a b c pa pb pc = (pa, (pb, (pc, tt)))
 pub no-values :
     (vs : List ℕ)
     → Fits noForm vs
-    → (vs ≡ getD vs 0 0 ∷ getD vs 1 0 ∷ getD vs 2 0 ∷ []) × (getD vs 0 0 < 100000) × (getD vs 1 0 < 100000) × (getD vs 2 0 < 100000)
+    → (vs ≡ getD vs 0 0 ∷ getD vs 1 0 ∷ getD vs 2 0 ∷ [])
+    × (getD vs 0 0 < 100000) × (getD vs 1 0 < 100000) × (getD vs 2 0 < 100000)
 unfolding entries Within noForm
 no-values vs f = let w = fits-within noForm vs f in (fits-entries noForm vs f, w .0, w .1 .0, w .1 .1 .0)
 
@@ -643,3 +690,111 @@ pub set-fits :
     (n : ℕ) (vs : List ℕ) → length vs ≡ n → ((i : ℕ) → i < n → getD vs i 0 < 100000) → Fits (setForm n) vs
 unfolding setForm Fits
 set-fits n vs e h = set-figures-fits n vs e h
+
+-- Two templates that no line has in common.
+
+-- whether two words have unlike bytes at a place that both have
+unfoldable pub clash : List ℕ → List ℕ → Bool
+clash [] x = false
+clash (a ∷ w) [] = false
+clash (a ∷ w) (b ∷ x) = not (eqb a b) || clash w x
+
+-- whether two templates are alike up to words that clash
+unfoldable pub unlike : Template → Template → Bool
+unlike [] u = false
+unlike (word w ∷ t) [] = false
+unlike (word w ∷ t) (word x ∷ u) = clash (bytes w) (bytes x) || (same (bytes w) (bytes x) && unlike t u)
+unlike (word w ∷ t) (figure ∷ u) = false
+unlike (word w ∷ t) (label ∷ u) = false
+unlike (figure ∷ t) [] = false
+unlike (figure ∷ t) (word x ∷ u) = false
+unlike (figure ∷ t) (figure ∷ u) = unlike t u
+unlike (figure ∷ t) (label ∷ u) = false
+unlike (label ∷ t) [] = false
+unlike (label ∷ t) (word x ∷ u) = false
+unlike (label ∷ t) (figure ∷ u) = false
+unlike (label ∷ t) (label ∷ u) = unlike t u
+
+after-either : (a b : ℕ) (w s : List ℕ) → after w s ≡ none → after (a ∷ w) (b ∷ s) ≡ none
+after-either a b w s h =
+    ⊎-elim
+    (λ (e : eqb a b ≡ true). after-same a b w s e ∙ h)
+    (λ (e : eqb a b ≡ false). after-other a b w s e)
+    (by-test (eqb a b))
+
+after-clash : (w x s : List ℕ) → clash w x ≡ true → after x (w ++ s) ≡ none
+unfolding clash
+after-clash [] x s h = absurd (true-or-false false h refl)
+after-clash (a ∷ w) [] s h = absurd (true-or-false false h refl)
+after-clash (a ∷ w) (b ∷ x) s h =
+    ⊎-elim
+    (λ (e : not (eqb a b) ≡ true).
+    let n : a ≡ b → ⊥ = eqb-false a b (not-true (eqb a b) e) in
+    after-other b a x (w ++ s) (ne-eqb b a (λ (z : b ≡ a). n (sym z))))
+    (λ (e : clash w x ≡ true). after-either b a x (w ++ s) (after-clash w x s e))
+    (or-cases (not (eqb a b)) (clash w x) h)
+
+word-none : (w : String) (t : Template) (s : List ℕ) → after (bytes w) s ≡ none → values (word w ∷ t) s ≡ none
+unfolding values
+word-none w t s h = rw (h, values)
+
+pub values-unlike :
+    (t u : Template) (vs : List ℕ)
+    → apart t ≡ true
+    → unlike t u ≡ true
+    → Fits t vs
+    → values u (written t vs) ≡ none
+unfolding Fits apart written unlike
+values-unlike [] u vs a h f = absurd (true-or-false false h refl)
+values-unlike (word w ∷ t) [] vs a h f = absurd (true-or-false false h refl)
+values-unlike (word w ∷ t) (word x ∷ u) vs a h f =
+    ⊎-elim
+    (λ (e : clash (bytes w) (bytes x) ≡ true).
+    word-none x u (bytes w ++ written t vs) (after-clash (bytes w) (bytes x) (written t vs) e))
+    (λ (e : same (bytes w) (bytes x) && unlike t u ≡ true).
+    let q : bytes w ≡ bytes x = same-eq (bytes w) (bytes x) (and-left (same (bytes w) (bytes x)) (unlike t u) e) in
+    let p : after (bytes x) (bytes w ++ written t vs) ≡ some (written t vs) =
+    ap (λ (r : List ℕ). after r (bytes w ++ written t vs)) (sym q) ∙ after-front (bytes w) (written t vs) in
+    values-word x u (bytes w ++ written t vs) (written t vs) p
+    ∙ values-unlike t u vs (and-right (oneLine (bytes w)) (apart t) a)
+    (and-right (same (bytes w) (bytes x)) (unlike t u) e) f)
+    (or-cases (clash (bytes w) (bytes x)) (same (bytes w) (bytes x) && unlike t u) h)
+values-unlike (word w ∷ t) (figure ∷ u) vs a h f = absurd (true-or-false false h refl)
+values-unlike (word w ∷ t) (label ∷ u) vs a h f = absurd (true-or-false false h refl)
+values-unlike (figure ∷ t) [] vs a h f = absurd (true-or-false false h refl)
+values-unlike (figure ∷ t) (word x ∷ u) vs a h f = absurd (true-or-false false h refl)
+values-unlike (figure ∷ t) (figure ∷ u) [] a h f = absurd f
+values-unlike (figure ∷ t) (figure ∷ u) (v ∷ vs) a h f =
+    figure-front t u v vs a (f .0) ∙ rw (values-unlike t u vs (and-right (closes t) (apart t) a) h (f .1))
+values-unlike (figure ∷ t) (label ∷ u) vs a h f = absurd (true-or-false false h refl)
+values-unlike (label ∷ t) [] vs a h f = absurd (true-or-false false h refl)
+values-unlike (label ∷ t) (word x ∷ u) vs a h f = absurd (true-or-false false h refl)
+values-unlike (label ∷ t) (figure ∷ u) vs a h f = absurd (true-or-false false h refl)
+values-unlike (label ∷ t) (label ∷ u) [] a h f = absurd f
+values-unlike (label ∷ t) (label ∷ u) (v ∷ vs) a h f =
+    label-front t u v vs (f .0) (f .1) ∙ rw (values-unlike t u vs a h (f .2))
+
+-- what tells the lines of a listing apart: a cell line from those of the other cells, and an output's line from a cell line
+pub yes-not-on : (vs : List ℕ) → Fits yesForm vs → values onForm (written yesForm vs) ≡ none
+yes-not-on vs f =
+    values-unlike yesForm onForm vs yes-apart (unfold yesForm onForm unlike clash same bytes in refl) f
+
+pub no-not-on : (vs : List ℕ) → Fits noForm vs → values onForm (written noForm vs) ≡ none
+no-not-on vs f =
+    values-unlike noForm onForm vs no-apart (unfold noForm onForm unlike clash same bytes in refl) f
+
+pub no-not-yes : (vs : List ℕ) → Fits noForm vs → values yesForm (written noForm vs) ≡ none
+no-not-yes vs f =
+    values-unlike noForm yesForm vs no-apart (unfold noForm yesForm unlike clash same bytes in refl) f
+
+pub out-not-on : (vs : List ℕ) → Fits outForm vs → values onForm (written outForm vs) ≡ none
+out-not-on vs f =
+    values-unlike outForm onForm vs out-apart (unfold outForm onForm unlike clash same bytes in refl) f
+
+pub out-not-yes : (vs : List ℕ) → Fits outForm vs → values yesForm (written outForm vs) ≡ none
+out-not-yes vs f =
+    values-unlike outForm yesForm vs out-apart (unfold outForm yesForm unlike clash same bytes in refl) f
+
+pub out-not-no : (vs : List ℕ) → Fits outForm vs → values noForm (written outForm vs) ≡ none
+out-not-no vs f =
+    values-unlike outForm noForm vs out-apart (unfold outForm noForm unlike clash same bytes in refl) f

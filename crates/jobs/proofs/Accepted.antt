@@ -17,7 +17,7 @@ use Rattle.figures.specs.Line.{Lines, left, _⏎_, linesOf, follows}
 use Rattle.forms.specs.Template.{Template, values}
 use Rattle.forms.specs.Due.{Taken, due}
 use Rattle.forms.specs.Forms.{jobForm, oneForm, nodeForm, outForm, endForm}
-use Rattle.forms.proofs.Template.{Fits, due-line, written-values, node-values, one-values}
+use Rattle.forms.proofs.Template.{due-fits, node-values, one-values}
 use Rattle.diagram.proofs.Valid.{Valid, valid-bare, valid-node, valid-out, valid-facts}
 use Rattle.diagram.specs.declared.Node.{Node}
 use Rattle.diagram.specs.Diagram.{Diagram, bare, withNode, withOut}
@@ -26,10 +26,6 @@ use Rattle.diagram.specs.Wires.{rowCount, columnCount, tooLarge}
 use Rattle.diagram.proofs.Facts.{Facts, Sizes}
 use Rattle.jobs.specs.Reading.{Text, nodeOf, readEnd, readOuts, readNodes, readOne, readHead, readText}
 use Rattle.jobs.specs.Job.{accepted}
-
--- the values of the line due fit its form
-due-fits : (f : Template) (n : ℕ) (ls : Lines) (o : Taken) → due f n ls ≡ done o → Fits f (o .vals)
-due-fits f n ls o h = let l = due-line f n ls o h in written-values f (l .0) (o .vals) (l .2) .1
 
 -- a valid diagram e that goes on from d with m nodes and k outputs more
 record Grown (d e : Diagram) (m k : ℕ) : Type 0 where
