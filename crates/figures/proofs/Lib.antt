@@ -1,2 +1,6 @@
-pub mod Figure
+pub mod Decimals
+pub mod Digits
+pub mod Ends
 pub mod Line
+pub mod Words
+pub mod Writing

@@ -1,3 +1,4 @@
 pub mod Bytes
 pub mod Figure
 pub mod Line
+pub mod Position

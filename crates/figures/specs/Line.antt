@@ -1,7 +1,8 @@
 -- Document 01, "Job text": "One bracketed form a line, ended by a line feed, the last line too."
-use Prim.Native.Nat.{ℕ}
+use Prim.Native.Nat.{ℕ, suc, _+_}
 use mathlib.Core.Bool.{Bool, true, false}
 use mathlib.Core.List.{List, [], _∷_}
+use lib.ListN.{drop}
 use lib.Dec.{eqb}
 
 infixr 40 _⏎_
@@ -25,3 +26,12 @@ unfoldable pub follows : Lines → Bool
 follows (left []) = false
 follows (left (b ∷ s)) = true
 follows (l ⏎ ls) = true
+
+-- how many bytes stand before the first line feed; all of them where there is none
+unfoldable pub beforeFeed : List ℕ → ℕ
+beforeFeed [] = 0
+beforeFeed (b ∷ s) = elim (eqb b 10) [ true ↦ 0 | false ↦ suc (beforeFeed s) ]
+
+-- the position of the first line feed at or after a position, or the position past the last byte where there is none
+unfoldable pub lineEnd : List ℕ → ℕ → ℕ
+lineEnd s at = at + beforeFeed (drop at s)

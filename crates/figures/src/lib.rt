@@ -1,1 +1,128 @@
 // Figures, words and lines in bytes.
+ghost use mathlib.Core.Path.{_≡_};
+ghost use Prim.Native.Nat.{_+_, _≤_};
+ghost use lib.ListN.{getD, length};
+ghost use Rattle.figures.specs.Figure.{isDigit, decimal};
+ghost use Rattle.figures.specs.Line.{lineEnd};
+ghost use Rattle.figures.specs.Position.{stands, figureAt, put};
+
+// Document 01, "Job text": a line is ended by a line feed.
+pub const LINE_FEED: u8 = 10;
+
+// The position of the first line feed at or after `at`, or the position past the last byte where there is none.
+pub fn line_end(text: &[u8], at: usize) -> usize
+    ensures { λ r. ⌜ r ≡ lineEnd (now (text .entry)) at ⌝ }
+{
+    let mut i = at;
+    while i < text.len() {
+        if text[i] == LINE_FEED {
+            return i;
+        }
+        i += 1;
+    }
+    i
+}
+
+// Whether `word` stands at `at`.
+pub fn word_at(text: &[u8], at: usize, word: &[u8]) -> bool
+    ensures { λ r. ⌜ r ≡ stands (now (word .entry)) (now (text .entry)) at ⌝ }
+{
+    let mut i = at;
+    let mut j = 0;
+    while j < word.len() {
+        if text.len() <= i {
+            return false;
+        }
+        if text[i] != word[j] {
+            return false;
+        }
+        i += 1;
+        j += 1;
+    }
+    true
+}
+
+// The bytes of the digits 0 and 9.
+pub const ZERO: u8 = 48;
+
+pub const NINE: u8 = 57;
+
+// Document 01, "Job text": the most digits of a figure.
+pub const MAX_DIGITS: usize = 5;
+
+// The figure that stands at a position, with the position past it, or that there is none.
+pub enum Figure {
+    At { value: u32, next: usize },
+    Missing,
+}
+
+// Whether a digit stands at `i`.
+fn digit_at(text: &[u8], i: usize) -> bool
+    ensures { λ r. ⌜ r ≡ isDigit (getD (now (text .entry)) i 0) ⌝ }
+{
+    if text.len() <= i {
+        return false;
+    }
+    let b = text[i];
+    if b < ZERO {
+        return false;
+    }
+    b <= NINE
+}
+
+// Document 01, "Job text": "Figures are decimal, no leading zero, at most 5 digits." The figure at `at`; at most six digits are
+// looked at.
+pub fn read_figure(text: &[u8], at: usize) -> Figure
+    ensures { λ r. ⌜ r ≡ figureAt (now (text .entry)) at ⌝ }
+{
+    let mut value: u32 = 0;
+    let mut i = at;
+    while digit_at(text, i) {
+        if i - at == MAX_DIGITS {
+            return Figure::Missing;
+        }
+        value = value * 10 + (text[i] - ZERO) as u32;
+        i += 1;
+    }
+    if i == at {
+        return Figure::Missing;
+    }
+    if 1 < i - at {
+        if text[at] == ZERO {
+            return Figure::Missing;
+        }
+    }
+    Figure::At { value, next: i }
+}
+
+// How many digits the figure of a number has. Above 99999 `decimal` is the last five digits.
+pub fn figure_length(n: u32) -> usize
+    ensures { λ r. ⌜ r ≡ length (decimal n) ⌝ }
+{
+    if n < 10 {
+        return 1;
+    }
+    if n < 100 {
+        return 2;
+    }
+    if n < 1000 {
+        return 3;
+    }
+    if n < 10000 { 4 } else { 5 }
+}
+
+// Writes the figure of `n` at `at`, the last digit first, and answers the position past it. The caller has measured the room.
+pub fn write_figure(out: &mut [u8], at: usize, n: u32) -> usize
+    requires { ⌜ at + length (decimal n) ≤ length (now out) ⌝ }
+    ensures { λ r. ⌜ (r ≡ at + length (decimal n)) × (now (out .exit) ≡ put (now (out .entry)) at (decimal n)) ⌝ }
+{
+    let count = figure_length(n);
+    let mut j = count;
+    let mut left = n;
+    while 0 < j {
+        j -= 1;
+        out[at + j] = ZERO + (left % 10) as u8;
+        left /= 10;
+    }
+    at + count
+}

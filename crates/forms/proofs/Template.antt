@@ -18,7 +18,7 @@ use Rattle.common.proofs.Lists.{by-test, and-left, and-right, and-both, or-case
 use Rattle.figures.specs.Bytes.{bytes, after}
 use Rattle.figures.specs.Figure.{Figured, isDigit, takeFigure, decimal}
 use Rattle.figures.specs.Line.{Lines, left, _⏎_, linesOf}
-use Rattle.figures.proofs.Figure.{noDigit, takes-decimal, decimal-taken, decimal-bytes, digit-range}
+use Rattle.figures.proofs.Decimals.{noDigit, takes-decimal, decimal-taken, decimal-bytes, digit-range}
 use Rattle.figures.proofs.Line.{oneLine, first-line, lines-first}
 use Rattle.forms.specs.Template.{Template, Item, word, figure, label, labelOf, letterOf, values, written, line}
 use Rattle.forms.specs.Due.{Taken, due}

@@ -1,0 +1,4 @@
+pub mod Cells
+pub mod Printed
+pub mod Loaded
+pub mod RoundTrip

@@ -1,0 +1,127 @@
+-- Print and load are inverse. Document 01, demand 2: "Print then load gives that crossbar; load then print gives that text, where
+-- neither refuses." Assumes nothing.
+use Prim.Native.Nat.{ℕ, _-_, _≤_}
+use mathlib.Core.Path.{_≡_, refl, sym, ap, _∙_}
+use mathlib.Core.Bool.{Bool, true, not}
+use mathlib.Core.List.{List, [], _∷_, _++_}
+use native.Mathlib.Omega.{arith}
+use lib.ListN.{length, length-append, take, drop}
+use lib.Dec.{eqb, leb}
+use lib.Seq.{take-append-le, drop-append-le}
+use borrow.Author.Tests.{le-ltb, le-leb, not-false}
+use Rattle.common.specs.Lists.{zeros, padded, all-of}
+use Rattle.common.specs.Limits.{maxOutputs}
+use Rattle.common.specs.Outcome.{done, lowest, unless}
+use Rattle.common.proofs.Outcome.{unless-done, not-met}
+use Rattle.cells.specs.Record.{Whole, size, sound}
+use Rattle.cells.specs.declared.Crossbar.{Crossbar}
+use Rattle.listings.specs.Listing.{listing, print}
+use Rattle.listings.specs.Loading.{recordOf, cellsOf, load}
+use Rattle.listings.proofs.Printed.{taken-padded, sound-facts, listing-read, load-listing}
+use Rattle.listings.proofs.Loaded.{all-of-zeros, load-done, loaded-text}
+
+-- what print gives is the listing of a sound crossbar
+pub print-done :
+    (x : Crossbar) (cells : List ℕ) (room : ℕ) (s : List ℕ)
+    → print x cells room ≡ done s
+    → (sound x cells ≡ true) × (listing x cells ≡ s)
+unfolding print
+print-done x cells room s h =
+    let u = unless-done _ 0 (done (listing x cells)) s h in
+    let e : done (listing x cells) ≡ done s = u .1 in
+    (not-false (sound x cells) (not-met 11 (not (sound x cells)) _ (u .0)), cc)
+
+-- "Print then load gives that crossbar": the text is loaded into any buffer that holds the cells
+pub load-printed :
+    (x : Crossbar) (cells : List ℕ) (room room′ : ℕ) (s : List ℕ)
+    → length (x .outs) ≡ maxOutputs
+    → print x cells room ≡ done s
+    → size x ≤ room′
+    → load s room′ ≡ done (record { head = x; codes = take (size x) cells })
+load-printed x cells room room′ s wide h fits =
+    let p = print-done x cells room s h in
+    rw (← (p .1)) (load-listing x cells room′ wide (p .0) fits)
+
+-- the same, where neither refuses
+pub load-print :
+    (x : Crossbar) (cells : List ℕ) (room room′ : ℕ) (s : List ℕ) (w : Whole)
+    → length (x .outs) ≡ maxOutputs
+    → print x cells room ≡ done s
+    → load s room′ ≡ done w
+    → (w .head ≡ x) × (w .codes ≡ take (size x) cells)
+load-print x cells room room′ s w wide h g =
+    let p = print-done x cells room s h in
+    let d = listing-read x cells 1 wide (sound-facts x cells (p .0)) in
+    let l = load-done s room′ w g in
+    let one : done (d .0) ≡ done (l .0) = sym (d .1) ∙ rw (p .1) (l .1) in
+    let same : d .0 ≡ l .0 = cc in
+    (sym (l .2) ∙ ap recordOf (sym same) ∙ d .2, sym (l .3) ∙ ap cellsOf (sym same) ∙ d .3)
+
+-- the same of the whole slice of cells: ground 12 leaves only zeros past the R·C cells, as load's buffer has them
+pub load-printed-padded :
+    (x : Crossbar) (cells : List ℕ) (room : ℕ) (s : List ℕ)
+    → length (x .outs) ≡ maxOutputs
+    → print x cells room ≡ done s
+    → (w : Whole) × (load s (length cells) ≡ done w) × (w .head ≡ x) × (padded (length cells) (w .codes) ≡ cells)
+load-printed-padded x cells room s wide h =
+    let f = sound-facts x cells (print-done x cells room s h .0) in (
+      record { head = x; codes = take (size x) cells },
+      load-printed x cells room (length cells) s wide h (f .enough),
+      refl,
+      taken-padded (size x) (length cells) cells refl (f .enough) (f .past),
+    )
+
+-- a sound crossbar is printed into any buffer that holds its text
+pub print-sound :
+    (x : Crossbar) (cells : List ℕ) (room : ℕ)
+    → sound x cells ≡ true
+    → length (listing x cells) ≤ room
+    → print x cells room ≡ done (listing x cells)
+unfolding print lowest unless
+print-sound x cells room h fits = rw (h, le-ltb room (length (listing x cells)) fits)
+
+-- "load then print gives that text": the crossbar is printed into any buffer that holds the text
+pub print-load :
+    (s : List ℕ) (room room′ : ℕ) (w : Whole)
+    → load s room ≡ done w
+    → length s ≤ room′
+    → print (w .head) (w .codes) room′ ≡ done s
+print-load s room room′ w h fits =
+    let t = loaded-text s room w h in
+    rw (t .1) at (print-sound (w .head) (w .codes) room′ (t .0) (rw (t .1) fits))
+
+-- the same, where neither refuses
+pub print-loaded :
+    (s : List ℕ) (room room′ : ℕ) (w : Whole) (s′ : List ℕ)
+    → load s room ≡ done w
+    → print (w .head) (w .codes) room′ ≡ done s′
+    → s′ ≡ s
+print-loaded s room room′ w s′ h g = sym (print-done (w .head) (w .codes) room′ s′ g .1) ∙ loaded-text s room w h .1
+
+-- what holds of 0 holds of a list with zeros after it just where it holds of the list
+all-of-more : (f : ℕ → Bool) (s : List ℕ) (n : ℕ) → f 0 ≡ true → all-of f (s ++ zeros n) ≡ all-of f s
+unfolding all-of
+all-of-more f [] n h = all-of-zeros f n h
+all-of-more f (a ∷ s) n h = rw (all-of-more f s n h)
+
+-- print reads the first R·C codes, and zeros past them change nothing
+pub print-zeros :
+    (x : Crossbar) (cells : List ℕ) (n room : ℕ)
+    → size x ≤ length cells
+    → print x (cells ++ zeros n) room ≡ print x cells room
+unfolding print sound listing
+print-zeros x cells n room h =
+    let more : leb (size x) (length (cells ++ zeros n)) ≡ true = le-leb (size x) (length (cells ++ zeros n)) (rw length-append (omega arith)) in
+    let most : leb (size x) (length cells) ≡ true = le-leb (size x) (length cells) h in
+    rw (more, most, take-append-le (size x) cells (zeros n) h, drop-append-le (size x) cells (zeros n) h, all-of-more (λ b. eqb b 0) (drop (size x) cells) n refl)
+
+-- "load then print", of a buffer that is longer than the R·C cells: load leaves zeros past them
+pub print-load-padded :
+    (s : List ℕ) (room room′ n : ℕ) (w : Whole)
+    → load s room ≡ done w
+    → length s ≤ room′
+    → print (w .head) (padded n (w .codes)) room′ ≡ done s
+unfolding padded
+print-load-padded s room room′ n w h fits =
+    let enough = sound-facts (w .head) (w .codes) (loaded-text s room w h .0) .enough in
+    print-zeros (w .head) (w .codes) (n - length (w .codes)) room′ enough ∙ print-load s room room′ w h fits
