@@ -3,10 +3,10 @@ use Prim.Native.Nat.{ℕ, zero, suc, _+_, _-_, _*_, _≤_, _<_}
 use mathlib.Core.Path.{_≡_, refl, sym, ap, _∙_}
 use mathlib.Core.Logic.{_⊎_, inl, inr, ⊎-elim}
 use mathlib.Core.Bool.{Bool, true, false, _&&_, _||_}
-use mathlib.Core.List.{List, [], _∷_, _++_, map}
+use mathlib.Core.List.{List, [], _∷_, _++_, map, append-assoc, append-nil}
 use native.Mathlib.Omega.{arith}
 use native.Mathlib.Nat.{eq-or-lt-of-le, mul-le-mul-right, zero-mul}
-use lib.ListN.{length, getD, take, drop, replicate, length-append, length-replicate, List·getD-append}
+use lib.ListN.{length, getD, set, replicate, length-append, length-replicate, replicate-append-replicate, List·getD-append}
 use lib.Seq.{getD-append-add, getD-at}
 use lib.Dec.{eqb, ltb}
 use borrow.Author.Tests.{eqb-true, eqb-false, eq-eqb, ltb-true, ltb-false}
@@ -179,3 +179,61 @@ pub getD-map-at : (f : ℕ → ℕ) (l : List ℕ) (i d e : ℕ) → i < length 
 getD-map-at f [] i d e h = absurd (omega arith)
 getD-map-at f (a ∷ l) zero d e h = refl
 getD-map-at f (a ∷ l) (suc i) d e h = getD-map-at f l i d e (omega arith)
+
+-- tests over all entries of lists that are put together
+pub all-of-append : (f : ℕ → Bool) (s t : List ℕ) → all-of f s ≡ true → all-of f t ≡ true → all-of f (s ++ t) ≡ true
+unfolding all-of
+all-of-append f [] t p q = q
+all-of-append f (a ∷ s) t p q =
+    and-both (f a) (all-of f (s ++ t)) (and-left (f a) (all-of f s) p) (all-of-append f s t (and-right (f a) (all-of f s) p) q)
+
+pub all-of-single : (f : ℕ → Bool) (a : ℕ) → f a ≡ true → all-of f (a ∷ []) ≡ true
+unfolding all-of
+all-of-single f a p = and-both (f a) true p refl
+
+pub all-of-tab : (f : ℕ → Bool) (n : ℕ) (g : ℕ → ℕ) → ((c : ℕ) → c < n → f (g c) ≡ true) → all-of f (tab n g) ≡ true
+unfolding tab all-of
+all-of-tab f zero g h = refl
+all-of-tab f (suc n) g h =
+    all-of-append f (tab n g) (g n ∷ []) (all-of-tab f n g (λ c below. h c (omega arith))) (all-of-single f (g n) (h n (omega arith)))
+
+pub all-of-grid :
+    (f : ℕ → Bool) (m n : ℕ) (g : ℕ → ℕ → ℕ) → ((r c : ℕ) → r < m → c < n → f (g r c) ≡ true) → all-of f (grid m n g) ≡ true
+unfolding grid all-of
+all-of-grid f zero n g h = refl
+all-of-grid f (suc m) n g h =
+    all-of-append f (grid m n g) (tab n (g m)) (all-of-grid f m n g (λ r c below. h r c (omega arith))) (all-of-tab f n (g m) (λ c. h m c (omega arith)))
+
+pub all-of-map :
+    (f : ℕ → Bool) (g : ℕ → ℕ) (l : List ℕ) → ((j : ℕ) → j < length l → f (g (getD l j 0)) ≡ true) → all-of f (map g l) ≡ true
+unfolding all-of
+all-of-map f g [] h = refl
+all-of-map f g (a ∷ l) h =
+    and-both (f (g a)) (all-of f (map g l)) (h 0 (omega arith)) (all-of-map f g l (λ j below. h (suc j) (omega arith)))
+
+pub all-of-set : (f : ℕ → Bool) (l : List ℕ) (i a : ℕ) → f a ≡ true → all-of f l ≡ true → all-of f (set l i a) ≡ true
+unfolding all-of
+all-of-set f [] i a p h = h
+all-of-set f (b ∷ l) zero a p h = and-both (f a) (all-of f l) p (and-right (f b) (all-of f l) h)
+all-of-set f (b ∷ l) (suc i) a p h =
+    and-both
+    (f b)
+    (all-of f (set l i a))
+    (and-left (f b) (all-of f l) h)
+    (all-of-set f l i a p (and-right (f b) (all-of f l) h))
+
+pub all-of-zeros : (f : ℕ → Bool) (n : ℕ) → f 0 ≡ true → all-of f (zeros n) ≡ true
+unfolding all-of
+all-of-zeros f zero h = refl
+all-of-zeros f (suc n) h = and-both (f 0) (all-of f (zeros n)) h (all-of-zeros f n h)
+
+-- padding up to one place more, and padding of a list that is long enough
+pub padded-more : (p : ℕ) (s : List ℕ) → length s ≤ p → padded (suc p) s ≡ padded p s ++ (0 ∷ [])
+unfolding padded
+padded-more p s h =
+    let e : suc p - length s ≡ (p - length s) + 1 = omega arith in
+    rw (e, ← (replicate-append-replicate {A = ℕ} (p - length s) 1 0)) (sym (append-assoc s (zeros (p - length s)) (0 ∷ [])))
+
+pub padded-full : (p : ℕ) (s : List ℕ) → length s ≡ p → padded p s ≡ s
+unfolding padded
+padded-full p s h = let e : p - length s ≡ 0 = omega arith in rw e (append-nil s)

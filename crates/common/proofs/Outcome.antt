@@ -28,3 +28,12 @@ pub others : (k : ℕ) (met : Bool) (gs : List Ground) → lowest ((suc k when m
 unfolding lowest
 others k true gs h = absurd (omega arith)
 others k false gs h = h
+
+-- a step that is done goes on, and no number stops nothing
+pub then-is : {A B : Type 0} (o : Outcome A) (a : A) (f : A → Outcome B) → o ≡ done a → o then f ≡ f a
+unfolding _then_
+then-is o a f e = rw e
+
+pub unless-none : {A : Type 0} (k n : ℕ) (o : Outcome A) → k ≡ 0 → unless k n o ≡ o
+unfolding unless
+unless-none k n o e = rw e

@@ -116,7 +116,7 @@ pub record Reading (s : List ℕ) (at v i : ℕ) : Type 0 where
 pub reading-start : (s : List ℕ) (at : ℕ) → Reading s at 0 at
 reading-start s at = record { from = omega arith; few = omega arith; inside = λ (h : at < at). absurd (omega arith); below = let e : at - at ≡ 0 = omega arith in rw e (omega arith); number = refl; count = refl }
 
-module _ (s : List ℕ) (at v i : ℕ) (r : Reading s at v i) where
+module _ {s : List ℕ} {at v i : ℕ} (r : Reading s at v i) where
   -- fewer than five digits write a number below ten thousand
   pub reading-small : i - at < 5 → v < 10000
   reading-small h =

@@ -13,7 +13,7 @@ use borrow.Author.Tests.{ltb-true, ltb-false, le-leb, eqb-true, not-true, not-fa
 use Rattle.common.specs.Lists.{zeros, padded, all-of}
 use Rattle.common.specs.Limits.{maxOutputs}
 use Rattle.common.specs.Outcome.{done}
-use Rattle.common.proofs.Lists.{and-both, and-left, and-right, length-padded}
+use Rattle.common.proofs.Lists.{and-both, and-left, and-right, length-padded, all-of-append, all-of-zeros, padded-full, padded-more}
 use Rattle.common.proofs.Outcome.{then-done, unless-done, not-met, others}
 use Rattle.figures.specs.Line.{Lines, left, _⏎_, linesOf, follows}
 use Rattle.figures.proofs.Line.{textOf, follows-none, text-lines}
@@ -29,19 +29,6 @@ use Rattle.listings.specs.Listing.{cellLine, cellLines, outLines, listin
 use Rattle.listings.specs.Loading.{Placed, placed, switchBelow, Listed, cellFault, withCell, standFault, withStand, loadEnd, loadOuts, loadCells, sized, sizeFault, loadFrom, recordOf, cellsOf, load}
 use Rattle.listings.proofs.Cells.{cell-lines-append, cell-lines-zeros, place-row, place-column, below-code, cell-written}
 use Rattle.listings.proofs.Printed.{soFar, in-range}
-
--- what holds of each entry of two lists holds of each of the two together; and of zeros, where it holds of 0
-pub all-of-append :
-    (f : ℕ → Bool) (s t : List ℕ) → all-of f s ≡ true → all-of f t ≡ true → all-of f (s ++ t) ≡ true
-unfolding all-of
-all-of-append f [] t p q = q
-all-of-append f (a ∷ s) t p q =
-    and-both (f a) (all-of f (s ++ t)) (and-left (f a) (all-of f s) p) (all-of-append f s t (and-right (f a) (all-of f s) p) q)
-
-pub all-of-zeros : (f : ℕ → Bool) (n : ℕ) → f 0 ≡ true → all-of f (zeros n) ≡ true
-unfolding all-of
-all-of-zeros f zero h = refl
-all-of-zeros f (suc n) h = and-both (f 0) (all-of f (zeros n)) h (all-of-zeros f n h)
 
 -- a line that was taken: the text is the line of its values and then the text of the later lines
 pub line-taken :

@@ -14,7 +14,8 @@ use borrow.Author.Tests.{lt-ltb, ltb-true, le-ltb, eq-eqb, leb-true, eqb-true}
 use Rattle.common.specs.Lists.{zeros, padded, all-of}
 use Rattle.common.specs.Limits.{maxRows, maxColumns, maxSwitches, maxOutputs}
 use Rattle.common.specs.Outcome.{Outcome, done, _then_, lowest, unless}
-use Rattle.common.proofs.Lists.{and-left, and-right, length-padded}
+use Rattle.common.proofs.Lists.{and-left, and-right, length-padded, padded-more, padded-full}
+use Rattle.common.proofs.Outcome.{then-is, unless-none}
 use Rattle.figures.specs.Line.{Lines, _⏎_, linesOf, follows}
 use Rattle.cells.specs.declared.Cell.the-variants.{Off}
 use Rattle.cells.specs.Code.{cellOf, codeOf}
@@ -73,26 +74,6 @@ in-range r c v k h =
       outputs-least = leb-true 1 k (t .4);
       outputs-most = leb-true k maxOutputs (t .5);
     }
-
--- padding up to one place more, and padding of a list that is long enough
-pub padded-more : (p : ℕ) (s : List ℕ) → length s ≤ p → padded (suc p) s ≡ padded p s ++ (0 ∷ [])
-unfolding padded
-padded-more p s h =
-    let e : suc p - length s ≡ (p - length s) + 1 = omega arith in
-    rw (e, ← (replicate-append-replicate {A = ℕ} (p - length s) 1 0)) (sym (append-assoc s (zeros (p - length s)) (0 ∷ [])))
-
-pub padded-full : (p : ℕ) (s : List ℕ) → length s ≡ p → padded p s ≡ s
-unfolding padded
-padded-full p s h = let e : p - length s ≡ 0 = omega arith in rw e (append-nil s)
-
--- a step that is done goes on, and no number stops nothing
-pub then-is : {A B : Type 0} (o : Outcome A) (a : A) (f : A → Outcome B) → o ≡ done a → o then f ≡ f a
-unfolding _then_
-then-is o a f e = rw e
-
-pub unless-none : {A : Type 0} (k n : ℕ) (o : Outcome A) → k ≡ 0 → unless k n o ≡ o
-unfolding unless
-unless-none k n o e = rw e
 
 -- a listing so far
 abbrev pub soFar : (r c v k : ℕ) (codes outs : List ℕ) → Listed

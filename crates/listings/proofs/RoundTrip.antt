@@ -12,13 +12,14 @@ use borrow.Author.Tests.{le-ltb, le-leb, not-false}
 use Rattle.common.specs.Lists.{zeros, padded, all-of}
 use Rattle.common.specs.Limits.{maxOutputs}
 use Rattle.common.specs.Outcome.{done, lowest, unless}
+use Rattle.common.proofs.Lists.{all-of-zeros}
 use Rattle.common.proofs.Outcome.{unless-done, not-met}
 use Rattle.cells.specs.Record.{Whole, size, sound}
 use Rattle.cells.specs.declared.Crossbar.{Crossbar}
 use Rattle.listings.specs.Listing.{listing, print}
 use Rattle.listings.specs.Loading.{recordOf, cellsOf, load}
 use Rattle.listings.proofs.Printed.{taken-padded, sound-facts, listing-read, load-listing}
-use Rattle.listings.proofs.Loaded.{all-of-zeros, load-done, loaded-text}
+use Rattle.listings.proofs.Loaded.{load-done, loaded-text}
 
 -- what print gives is the listing of a sound crossbar
 pub print-done :

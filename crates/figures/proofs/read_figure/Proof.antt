@@ -25,14 +25,12 @@ sub-if2 c = search needs
 
 returns : tie.Need-returns Inv-loop μ-loop
 returns c =
-    let l = c .before .before .before in
     let h = sym (c .before .before .digit-at .ensures) ∙ c .before .if1 .taken in
-    sym (reading-long (l .before .before .args .text .now) (l .before .before .args .at) (l .loop .value) (l .loop .i) (l .loop .inv) h (omega arith))
+    sym (reading-long (c .before .before .before .loop .inv) h (omega arith))
 
 mul-value : tie.Need-mul-value Inv-loop μ-loop
 mul-value c =
-    let l = c .before .before .before in
-    omega (arith, reading-small (l .before .before .args .text .now) (l .before .before .args .at) (l .loop .value) (l .loop .i) (l .loop .inv) (omega arith))
+    omega (arith, reading-small (c .before .before .before .loop .inv) (omega arith))
 
 shared-slice-read-value : tie.Need-shared-slice-read-value Inv-loop μ-loop
 shared-slice-read-value c =
@@ -42,21 +40,18 @@ shared-slice-read-value c =
 
 sub-value : tie.Need-sub-value Inv-loop μ-loop
 sub-value c =
-    let l = c .before .before .before .before in
     let h = sym (c .before .before .before .digit-at .ensures) ∙ c .before .before .if1 .taken in
     digit-range _ h .0
 
 cast-value : tie.Need-cast-value Inv-loop μ-loop
 cast-value c =
-    let l = c .before .before .before .before in
     let h = sym (c .before .before .before .digit-at .ensures) ∙ c .before .before .if1 .taken in
     omega (arith, digit-range _ h .1)
 
 add-value : tie.Need-add-value Inv-loop μ-loop
 add-value c =
-    let l = c .before .before .before .before in
     let h = sym (c .before .before .before .digit-at .ensures) ∙ c .before .before .if1 .taken in
-    omega (arith, digit-range _ h .1, reading-small (l .before .before .args .text .now) (l .before .before .args .at) (l .loop .value) (l .loop .i) (l .loop .inv) (omega arith))
+    omega (arith, digit-range _ h .1, reading-small (c .before .before .before .before .loop .inv) (omega arith))
 
 add-i : tie.Need-add-i Inv-loop μ-loop
 add-i c =
@@ -72,41 +67,35 @@ loop-less c =
 
 loop-again : tie.Need-loop-again Inv-loop μ-loop
 loop-again c =
-    let l = c .before .before .before .before in
     let h = sym (c .before .before .before .digit-at .ensures) ∙ c .before .before .if1 .taken in
-    reading-more (l .before .before .args .text .now) (l .before .before .args .at) (l .loop .value) (l .loop .i) (l .loop .inv) h (omega arith)
+    reading-more (c .before .before .before .before .loop .inv) h (omega arith)
 
 returns-2 : tie.Need-returns-2 Inv-loop μ-loop
 returns-2 c =
-    let l = c .before .before .before in
     let h = sym (c .before .before .digit-at .ensures) ∙ c .before .if1 .left in
-    sym (reading-none (l .before .before .args .text .now) (l .before .before .args .at) (l .loop .value) (l .loop .i) (l .loop .inv) h (c .if3 .taken))
+    sym (reading-none (c .before .before .before .loop .inv) h (c .if3 .taken))
 
 sub-if4 : tie.Need-sub-if4 Inv-loop μ-loop
 sub-if4 c = search needs
 
 shared-slice-read-if5 : tie.Need-shared-slice-read-if5 Inv-loop μ-loop
 shared-slice-read-if5 c =
-    let l = c .before .before .before .before .before in
-    omega (arith, l .loop .inv .inside (search needs))
+    omega (arith, c .before .before .before .before .before .loop .inv .inside (search needs))
 
 returns-3 : tie.Need-returns-3 Inv-loop μ-loop
 returns-3 c =
-    let l = c .before .before .before .before .before .before in
     let h = sym (c .before .before .before .before .before .digit-at .ensures) ∙ c .before .before .before .before .if1 .left in
-    sym (reading-zero (l .before .before .args .text .now) (l .before .before .args .at) (l .loop .value) (l .loop .i) (l .loop .inv) h (omega arith) (c .if5 .taken))
+    sym (reading-zero (c .before .before .before .before .before .before .loop .inv) h (omega arith) (c .if5 .taken))
 
 returns-4 : tie.Need-returns-4 Inv-loop μ-loop
 returns-4 c =
-    let l = c .before .before .before .before .before .before in
     let h = sym (c .before .before .before .before .before .digit-at .ensures) ∙ c .before .before .before .before .if1 .left in
-    sym (reading-several (l .before .before .args .text .now) (l .before .before .args .at) (l .loop .value) (l .loop .i) (l .loop .inv) h (omega arith) (c .if5 .left))
+    sym (reading-several (c .before .before .before .before .before .before .loop .inv) h (omega arith) (c .if5 .left))
 
 returns-5 : tie.Need-returns-5 Inv-loop μ-loop
 returns-5 c =
-    let l = c .before .before .before .before in
     let h = sym (c .before .before .before .digit-at .ensures) ∙ c .before .before .if1 .left in
-    sym (reading-one (l .before .before .args .text .now) (l .before .before .args .at) (l .loop .value) (l .loop .i) (l .loop .inv) h (omega arith) (omega arith))
+    sym (reading-one (c .before .before .before .before .loop .inv) h (omega arith) (omega arith))
 
 pub read-figure-spec : {M : Type 1} → statement M
 read-figure-spec =
