@@ -1,1 +1,4 @@
+pub mod Cases
+pub mod Pattern
+pub mod Reading
 pub mod Template

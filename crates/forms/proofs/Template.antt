@@ -224,7 +224,7 @@ word-from :
 word-from t none vs h = absurd (let z : _≡_ {A = ℕ} 0 1 = cc in omega arith)
 word-from t (some r) vs h = (r, refl, h)
 
-word-values :
+pub word-values :
     (w : String) (t : Template) (s vs : List ℕ)
     → values (word w ∷ t) s ≡ some vs
     → (r : List ℕ) × (after (bytes w) s ≡ some r) × (values t r ≡ some vs)

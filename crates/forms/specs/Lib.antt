@@ -1,3 +1,5 @@
 pub mod Template
 pub mod Due
+pub mod Form
 pub mod Forms
+pub mod Pattern

@@ -1,1 +1,256 @@
 // The lines of a job and of a listing.
+use cells::Cell;
+use common::Refusal;
+use figures::Figure;
+ghost use mathlib.Core.Path.{_≡_};
+ghost use Rattle.forms.specs.Template.{labelOf};
+ghost use Rattle.forms.specs.Pattern.{isItem, itemAt, valuesBy, refusedValues, answerOf};
+ghost use Rattle.forms.specs.Form.{switchOf, cellLine, formOf};
+
+// Document 01, "Job text": `(job V N K)`.
+pub struct JobForm {
+    pub switches: u32,
+    pub nodes: u32,
+    pub outputs: u32,
+}
+
+// `(node I X (L H) T)`, with the label T as 1 for `h`, 2 for `v`, 3 for `b`.
+pub struct NodeForm {
+    pub id: u32,
+    pub x: u32,
+    pub l: u32,
+    pub h: u32,
+    pub t: u32,
+}
+
+// `(out J I)`, and in a listing `(out J r)`.
+pub struct OutForm {
+    pub number: u32,
+    pub target: u32,
+}
+
+// Document 01, "Listing": `(crossbar R C V K)`.
+pub struct SizeForm {
+    pub rows: u32,
+    pub columns: u32,
+    pub switches: u32,
+    pub outputs: u32,
+}
+
+// `(cell r c (on))`, `(cell r c (yes x))` or `(cell r c (no x))`.
+pub struct CellForm {
+    pub row: u32,
+    pub column: u32,
+    pub cell: Cell,
+}
+
+// Document 01, "Job text": "Each line yields one form, or a refusal with its number and line". One holds the label of `(one T)`.
+pub enum Form {
+    Job(JobForm),
+    One(u32),
+    Node(NodeForm),
+    Out(OutForm),
+    End,
+    Size(SizeForm),
+    Cell(CellForm),
+    Refused(Refusal),
+}
+
+// The bytes that stand for a figure and for a label in a pattern: `#` and `@`.
+const FIGURE: u8 = 35;
+
+const LABEL: u8 = 64;
+
+// The values of a line under a pattern, in turn, or that the line does not fit it.
+struct Values {
+    ok: bool,
+    count: usize,
+    v: [u32; 5],
+}
+
+// "Labels T: `h` a row, `v` a column, `b` both"; 0 for any other byte.
+fn label_of(b: u8) -> u32
+    ensures { λ r. ⌜ r ≡ labelOf b ⌝ }
+{
+    if b == 104 {
+        return 1;
+    }
+    if b == 118 {
+        return 2;
+    }
+    if b == 98 { 3 } else { 0 }
+}
+
+// What the byte `p` of a pattern takes at a position of a line: a figure, a label, or the byte itself with the value 0.
+fn item_at(line: &[u8], at: usize, p: u8) -> Figure
+    ensures { λ r. ⌜ r ≡ itemAt p (now (line .entry)) at ⌝ }
+{
+    if p == FIGURE {
+        return figures::read_figure(line, at);
+    }
+    if line.len() <= at {
+        return Figure::Missing;
+    }
+    let b = line[at];
+    if p == LABEL {
+        let t = label_of(b);
+        if t == 0 {
+            return Figure::Missing;
+        }
+        return Figure::At {
+            value: t,
+            next: at + 1,
+        };
+    }
+    if p == b {
+        Figure::At {
+            value: 0,
+            next: at + 1,
+        }
+    } else {
+        Figure::Missing
+    }
+}
+
+// Whether a byte of a pattern stands for a value.
+fn is_item(p: u8) -> bool
+    ensures { λ r. ⌜ r ≡ isItem p ⌝ }
+{
+    if p == FIGURE {
+        return true;
+    }
+    p == LABEL
+}
+
+// The answer for a line that does not fit.
+fn refused_values() -> Values
+    ensures { λ r. ⌜ r ≡ refusedValues ⌝ }
+{
+    Values {
+        ok: false,
+        count: 0,
+        v: [0; 5],
+    }
+}
+
+// The values of a line under a pattern. There are at most five.
+fn read_values(line: &[u8], pattern: &[u8]) -> Values
+    ensures { λ r. ⌜ r ≡ answerOf (valuesBy (now (pattern .entry)) (now (line .entry))) ⌝ }
+{
+    let mut v = [0u32; 5];
+    let mut count: usize = 0;
+    let mut at: usize = 0;
+    let mut i: usize = 0;
+    while i < pattern.len() {
+        let p = pattern[i];
+        let Figure::At { value, next } = item_at(line, at, p) else {
+            return refused_values();
+        };
+        if is_item(p) {
+            if 5 <= count {
+                return refused_values();
+            }
+            v[count] = value;
+            count += 1;
+        }
+        at = next;
+        i += 1;
+    }
+    if at < line.len() {
+        return refused_values();
+    }
+    Values { ok: true, count, v }
+}
+
+// A cell's switch as a byte: the smaller of the figure and 255. A crossbar has at most 64 switches, so a figure above 255 and 255
+// are both out of range, and the reader of the listing answers both alike.
+fn switch_of(x: u32) -> u8
+    ensures { λ r. ⌜ r ≡ switchOf x ⌝ }
+{
+    if x <= 255 { x as u8 } else { 255 }
+}
+
+// The form of a line that can only be a cell line, or the refusal with ground 1.
+fn read_cell(line: &[u8], number: u32) -> Form
+    ensures { λ r. ⌜ r ≡ cellLine (now (line .entry)) number ⌝ }
+{
+    let on = read_values(line, b"(cell # # (on))");
+    if on.ok {
+        return Form::Cell(CellForm {
+            row: on.v[0],
+            column: on.v[1],
+            cell: Cell::On,
+        });
+    }
+    let yes = read_values(line, b"(cell # # (yes #))");
+    if yes.ok {
+        let x = switch_of(yes.v[2]);
+        return Form::Cell(CellForm {
+            row: yes.v[0],
+            column: yes.v[1],
+            cell: Cell::Yes(x),
+        });
+    }
+    let no = read_values(line, b"(cell # # (no #))");
+    if no.ok {
+        let x = switch_of(no.v[2]);
+        return Form::Cell(CellForm {
+            row: no.v[0],
+            column: no.v[1],
+            cell: Cell::No(x),
+        });
+    }
+    Form::Refused(Refusal {
+        number: 1,
+        line: number,
+    })
+}
+
+// The form of one line, given without its line feed. A line that is no form is refused with ground 1 and its number.
+pub fn read_form(line: &[u8], number: u32) -> Form
+    ensures { λ r. ⌜ r ≡ formOf (now (line .entry)) number ⌝ }
+{
+    let job = read_values(line, b"(job # # #)");
+    if job.ok {
+        return Form::Job(JobForm {
+            switches: job.v[0],
+            nodes: job.v[1],
+            outputs: job.v[2],
+        });
+    }
+    let one = read_values(line, b"(one @)");
+    if one.ok {
+        return Form::One(one.v[0]);
+    }
+    let node = read_values(line, b"(node # # (# #) @)");
+    if node.ok {
+        return Form::Node(NodeForm {
+            id: node.v[0],
+            x: node.v[1],
+            l: node.v[2],
+            h: node.v[3],
+            t: node.v[4],
+        });
+    }
+    let out = read_values(line, b"(out # #)");
+    if out.ok {
+        return Form::Out(OutForm {
+            number: out.v[0],
+            target: out.v[1],
+        });
+    }
+    let end = read_values(line, b"(end)");
+    if end.ok {
+        return Form::End;
+    }
+    let size = read_values(line, b"(crossbar # # # #)");
+    if size.ok {
+        return Form::Size(SizeForm {
+            rows: size.v[0],
+            columns: size.v[1],
+            switches: size.v[2],
+            outputs: size.v[3],
+        });
+    }
+    read_cell(line, number)
+}

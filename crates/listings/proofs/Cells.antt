@@ -22,7 +22,8 @@ use Rattle.forms.specs.Template.{Template, word, figure, values, written, line}
 use Rattle.forms.specs.Forms.{onForm, yesForm, noForm, outForm}
 use Rattle.forms.proofs.Template.{Fits, apart, values-written, written-values, written-line, on-apart, yes-apart, no-apart, on-fits, yes-fits, no-fits, on-values, yes-values, no-values}
 use Rattle.listings.specs.Listing.{cellLine, cellLines}
-use Rattle.listings.specs.Loading.{Placed, placed, switchBelow}
+use Rattle.forms.specs.Form.{Placed, placed}
+use Rattle.listings.specs.Loading.{switchBelow}
 
 -- the lines of codes that follow one another
 pub cell-lines-append :

@@ -26,7 +26,8 @@ use Rattle.forms.specs.Forms.{outForm, crossbarForm, endForm}
 use Rattle.forms.specs.Due.{Taken, due}
 use Rattle.forms.proofs.Template.{Fits, written-values, due-line, out-values, end-values, crossbar-values}
 use Rattle.listings.specs.Listing.{cellLine, cellLines, outLines, listing}
-use Rattle.listings.specs.Loading.{Placed, placed, switchBelow, Listed, cellFault, withCell, standFault, withStand, loadEnd, loadOuts, loadCells, sized, sizeFault, loadFrom, recordOf, cellsOf, load}
+use Rattle.forms.specs.Form.{Placed, placed}
+use Rattle.listings.specs.Loading.{switchBelow, Listed, cellFault, withCell, standFault, withStand, loadEnd, loadOuts, loadCells, sized, sizeFault, loadFrom, recordOf, cellsOf, load}
 use Rattle.listings.proofs.Cells.{cell-lines-append, cell-lines-zeros, place-row, place-column, below-code, cell-written}
 use Rattle.listings.proofs.Printed.{soFar, in-range}
 

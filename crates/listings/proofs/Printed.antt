@@ -27,7 +27,8 @@ use Rattle.forms.specs.Forms.{outForm, crossbarForm, endForm}
 use Rattle.forms.specs.Due.{due}
 use Rattle.forms.proofs.Template.{due-written, out-apart, out-fits, end-apart, end-fits, crossbar-apart, crossbar-fits}
 use Rattle.listings.specs.Listing.{cellLine, cellLines, outLines, listing}
-use Rattle.listings.specs.Loading.{Placed, placed, switchBelow, Listed, cellFault, withCell, standFault, withStand, loadEnd, loadOuts, loadCells, sized, sizeFault, loadFrom, recordOf, cellsOf, load}
+use Rattle.forms.specs.Form.{Placed, placed}
+use Rattle.listings.specs.Loading.{switchBelow, Listed, cellFault, withCell, standFault, withStand, loadEnd, loadOuts, loadCells, sized, sizeFault, loadFrom, recordOf, cellsOf, load}
 use Rattle.listings.proofs.Cells.{out-not-placed, line-first, Read, cell-read, code-below}
 
 -- every limit of a listing has a figure

@@ -14,9 +14,9 @@ use Rattle.cells.specs.declared.Cell.the-variants.{Off, On, Yes, No}
 use Rattle.cells.specs.declared.Crossbar.{Crossbar}
 use Rattle.cells.specs.Code.{codeOf}
 use Rattle.cells.specs.Record.{Whole, size, inRange}
-use Rattle.forms.specs.Template.{values}
 use Rattle.forms.specs.Due.{Taken, due}
-use Rattle.forms.specs.Forms.{crossbarForm, onForm, yesForm, noForm, outForm, endForm}
+use Rattle.forms.specs.Form.{Placed, placed}
+use Rattle.forms.specs.Forms.{crossbarForm, outForm, endForm}
 
 -- a crossbar as its listing says it: the sizes, the codes of the cells from place 0 up to the last one named, the output rows
 pub record Listed : Type 0 where
@@ -26,28 +26,6 @@ pub record Listed : Type 0 where
   pub outputs : ℕ
   pub codes : List ℕ
   pub outs : List ℕ
-
--- a cell line's row, column and cell
-pub record Placed : Type 0 where
-  pub row : ℕ
-  pub column : ℕ
-  pub cell : Cell
-
--- the cell of a line, or nothing where it is no cell line
-unfoldable pub placed : List ℕ → Option Placed
-placed l =
-    elim (values onForm l) [
-      | some vs ↦ some (record { row = getD vs 0 0; column = getD vs 1 0; cell = On })
-      | none ↦
-          elim (values yesForm l) [
-            | some vs ↦ some (record { row = getD vs 0 0; column = getD vs 1 0; cell = Yes (getD vs 2 0) })
-            | none ↦
-                elim (values noForm l) [
-                  | some vs ↦ some (record { row = getD vs 0 0; column = getD vs 1 0; cell = No (getD vs 2 0) })
-                  | none ↦ none
-                ]
-          ]
-    ]
 
 -- whether a cell names only switches below v
 unfoldable pub switchBelow : ℕ → Cell → Bool

@@ -1,0 +1,159 @@
+-- Document 01, "Job text": "Each line yields one form, or a refusal with its number and line".
+use Prim.Native.Nat.{ℕ}
+use mathlib.Core.Bool.{true, false}
+use mathlib.Core.Option.{Option, some, none}
+use mathlib.Core.List.{List, [], _∷_}
+use lib.ListN.{getD}
+use lib.Dec.{eqb, leb}
+use Rattle.common.specs.declared.Refusal.{Refusal}
+use Rattle.cells.specs.declared.Cell.{Cell}
+use Rattle.cells.specs.declared.Cell.the-variants.{Off, On, Yes, No}
+use Rattle.forms.specs.declared.Form.{Form}
+use Rattle.forms.specs.declared.Form.the-variants as form
+use Rattle.forms.specs.Template.{values}
+use Rattle.forms.specs.Forms.{jobForm, oneForm, nodeForm, outForm, endForm, crossbarForm, onForm, yesForm, noForm}
+
+-- a cell line's row, column and cell
+pub record Placed : Type 0 where
+  pub row : ℕ
+  pub column : ℕ
+  pub cell : Cell
+
+-- the cell of a line, or nothing where it is no cell line
+unfoldable pub placed : List ℕ → Option Placed
+placed l =
+    elim (values onForm l) [
+      | some vs ↦ some (record { row = getD vs 0 0; column = getD vs 1 0; cell = On })
+      | none ↦
+          elim (values yesForm l) [
+            | some vs ↦ some (record { row = getD vs 0 0; column = getD vs 1 0; cell = Yes (getD vs 2 0) })
+            | none ↦
+                elim (values noForm l) [
+                  | some vs ↦ some (record { row = getD vs 0 0; column = getD vs 1 0; cell = No (getD vs 2 0) })
+                  | none ↦ none
+                ]
+          ]
+    ]
+
+-- A form's switch is a byte, so a figure above 255 is taken as 255. A job has at most 64 switches: both are out of range.
+unfoldable pub switchOf : ℕ → ℕ
+switchOf x = elim (leb x 255) [ true ↦ x | false ↦ 255 ]
+
+unfoldable pub cappedCell : Cell → Cell
+cappedCell Off = Off
+cappedCell On = On
+cappedCell (Yes x) = Yes (switchOf x)
+cappedCell (No x) = No (switchOf x)
+
+unfoldable pub capped : Placed → Placed
+capped p = record { row = p .row; column = p .column; cell = cappedCell (p .cell) }
+
+-- the form of each kind, of its values
+unfoldable pub jobOf : List ℕ → Form
+jobOf vs = form.Job (record { switches = getD vs 0 0; nodes = getD vs 1 0; outputs = getD vs 2 0 })
+
+unfoldable pub oneOf : List ℕ → Form
+oneOf vs = form.One (getD vs 0 0)
+
+unfoldable pub nodeOf : List ℕ → Form
+nodeOf vs =
+    form.Node (record { id = getD vs 0 0; x = getD vs 1 0; l = getD vs 2 0; h = getD vs 3 0; t = getD vs 4 0 })
+
+unfoldable pub outOf : List ℕ → Form
+outOf vs = form.Out (record { number = getD vs 0 0; target = getD vs 1 0 })
+
+unfoldable pub endOf : List ℕ → Form
+endOf vs = form.End
+
+unfoldable pub sizeOf : List ℕ → Form
+sizeOf vs =
+    form.Size (record { rows = getD vs 0 0; columns = getD vs 1 0; switches = getD vs 2 0; outputs = getD vs 3 0 })
+
+unfoldable pub onOf : List ℕ → Form
+onOf vs = form.Cell (record { row = getD vs 0 0; column = getD vs 1 0; cell = On })
+
+unfoldable pub yesOf : List ℕ → Form
+yesOf vs = form.Cell (record { row = getD vs 0 0; column = getD vs 1 0; cell = Yes (switchOf (getD vs 2 0)) })
+
+unfoldable pub noOf : List ℕ → Form
+noOf vs = form.Cell (record { row = getD vs 0 0; column = getD vs 1 0; cell = No (switchOf (getD vs 2 0)) })
+
+-- ground 1: "The line is missing or not the form due."
+unfoldable pub notDue : ℕ → Form
+notDue n = form.Refused (record { number = 1; line = n })
+
+-- the form of the values, or else another answer
+unfoldable pub either : Option (List ℕ) → (List ℕ → Form) → Form → Form
+either none f other = other
+either (some vs) f other = f vs
+
+-- the form of a line, number n of the text, where it can only be a cell line
+unfoldable pub cellLine : List ℕ → ℕ → Form
+cellLine l n =
+    either (values onForm l) onOf (either (values yesForm l) yesOf (either (values noForm l) noOf (notDue n)))
+
+-- the form of a line, number n of the text
+unfoldable pub formOf : List ℕ → ℕ → Form
+formOf l n =
+    either (values jobForm l) jobOf
+    (either (values oneForm l) oneOf
+    (either (values nodeForm l) nodeOf
+    (either (values outForm l) outOf
+    (either (values endForm l) endOf
+    (either (values crossbarForm l) sizeOf
+    (cellLine l n))))))
+
+-- the kinds of forms in the order of the cases, and the values of a form, in the order of its line; a cell form's are the row and
+-- the column
+unfoldable pub kindOf : Form → ℕ
+kindOf (form.Job f) = 0
+kindOf (form.One t) = 1
+kindOf (form.Node f) = 2
+kindOf (form.Out f) = 3
+kindOf form.End = 4
+kindOf (form.Size f) = 5
+kindOf (form.Cell f) = 6
+kindOf (form.Refused r) = 7
+
+unfoldable pub valuesIn : Form → List ℕ
+valuesIn (form.Job f) = f .switches ∷ f .nodes ∷ f .outputs ∷ []
+valuesIn (form.One t) = t ∷ []
+valuesIn (form.Node f) = f .id ∷ f .x ∷ f .l ∷ f .h ∷ f .t ∷ []
+valuesIn (form.Out f) = f .number ∷ f .target ∷ []
+valuesIn form.End = []
+valuesIn (form.Size f) = f .rows ∷ f .columns ∷ f .switches ∷ f .outputs ∷ []
+valuesIn (form.Cell f) = f .row ∷ f .column ∷ []
+valuesIn (form.Refused r) = r .number ∷ r .line ∷ []
+
+-- the values of a form of one kind; none for every other kind
+unfoldable pub ofKind : ℕ → Form → Option (List ℕ)
+ofKind k f = elim (eqb (kindOf f) k) [ true ↦ some (valuesIn f) | false ↦ none ]
+
+abbrev pub asJob : Form → Option (List ℕ)
+asJob f = ofKind 0 f
+
+abbrev pub asOne : Form → Option (List ℕ)
+asOne f = ofKind 1 f
+
+abbrev pub asNode : Form → Option (List ℕ)
+asNode f = ofKind 2 f
+
+abbrev pub asOut : Form → Option (List ℕ)
+asOut f = ofKind 3 f
+
+abbrev pub asEnd : Form → Option (List ℕ)
+asEnd f = ofKind 4 f
+
+abbrev pub asSize : Form → Option (List ℕ)
+asSize f = ofKind 5 f
+
+-- the row, the column and the cell of a cell form
+unfoldable pub asCell : Form → Option Placed
+asCell (form.Job f) = none
+asCell (form.One t) = none
+asCell (form.Node f) = none
+asCell (form.Out f) = none
+asCell form.End = none
+asCell (form.Size f) = none
+asCell (form.Cell f) = some (record { row = f .row; column = f .column; cell = f .cell })
+asCell (form.Refused r) = none
