@@ -2,3 +2,4 @@ pub mod Cases
 pub mod Pattern
 pub mod Reading
 pub mod Template
+pub mod Lines

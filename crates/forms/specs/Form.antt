@@ -8,6 +8,7 @@ use lib.Dec.{eqb, leb}
 use Rattle.common.specs.declared.Refusal.{Refusal}
 use Rattle.cells.specs.declared.Cell.{Cell}
 use Rattle.cells.specs.declared.Cell.the-variants.{Off, On, Yes, No}
+use Rattle.figures.specs.Line.{Lines, left, _⏎_}
 use Rattle.forms.specs.declared.Form.{Form}
 use Rattle.forms.specs.declared.Form.the-variants as form
 use Rattle.forms.specs.Template.{values}
@@ -102,6 +103,11 @@ formOf l n =
     (either (values endForm l) endOf
     (either (values crossbarForm l) sizeOf
     (cellLine l n))))))
+
+-- the form of the line due, number n of the text; ground 1 where it is missing
+unfoldable pub formIn : Lines → ℕ → Form
+formIn (left s) n = notDue n
+formIn (l ⏎ ls) n = formOf l n
 
 -- the kinds of forms in the order of the cases, and the values of a form, in the order of its line; a cell form's are the row and
 -- the column

@@ -5,7 +5,9 @@ use figures::Figure;
 ghost use mathlib.Core.Path.{_≡_};
 ghost use Rattle.forms.specs.Template.{labelOf};
 ghost use Rattle.forms.specs.Pattern.{isItem, itemAt, valuesBy, refusedValues, answerOf};
-ghost use Rattle.forms.specs.Form.{switchOf, cellLine, formOf};
+ghost use Rattle.forms.specs.Form.{switchOf, cellLine, formOf, formIn};
+ghost use Rattle.figures.specs.Line.{linesOf};
+ghost use lib.ListN.{drop};
 
 // Document 01, "Job text": `(job V N K)`.
 pub struct JobForm {
@@ -253,4 +255,19 @@ pub fn read_form(line: &[u8], number: u32) -> Form
         });
     }
     read_cell(line, number)
+}
+
+// The form of the line that starts at `at`, number `number` of the text; a refusal where no line feed ends it.
+pub fn form_at(text: &[u8], at: usize, number: u32) -> Form
+    ensures { λ r. ⌜ r ≡ formIn (linesOf (drop at (now (text .entry)))) number ⌝ }
+{
+    let end = figures::line_end(text, at);
+    if end < text.len() {
+        read_form(&text[at..end], number)
+    } else {
+        Form::Refused(Refusal {
+            number: 1,
+            line: number,
+        })
+    }
 }
