@@ -1,4 +1,8 @@
 pub mod Canonical
 pub mod Facts
+pub mod Lines
+pub mod Owners
+pub mod Stored
+pub mod Tables
 pub mod Valid
 pub mod Walk

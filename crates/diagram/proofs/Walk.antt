@@ -10,7 +10,7 @@ use lib.ListN.{length, getD}
 use lib.Dec.{eqb}
 use Rattle.common.proofs.Lists.{by-test}
 use Rattle.diagram.specs.Diagram.{Diagram, terminal, entries, entry, idCount, switchAt, lowAt, highAt}
-use Rattle.diagram.specs.Walk.{step, steps, walkEnd}
+use Rattle.diagram.specs.Walk.{step, steps, walkEnd, Falls}
 use Rattle.diagram.proofs.Facts.{Facts}
 
 -- an id is 0, 1 or a node's
@@ -54,10 +54,20 @@ unfolding entry entries terminal
 step-one d s = step-cases (λ k. k ≡ 1) d s 1 refl refl
 
 -- a node's step falls
+pub facts-fall : (d : Diagram) → Facts d → Falls d
+facts-fall d facts =
+    record {
+      low-falls = λ i node within. facts .node i node within .low-below;
+      high-falls = λ i node within. facts .node i node within .high-below;
+    }
+
+pub step-falls : (d : Diagram) (s : List ℕ) → Falls d → (i : ℕ) → 2 ≤ i → i < idCount d → step d s i < i
+step-falls d s falls i node within =
+    step-cases (λ k. k < i) d s i (falls .low-falls i node within) (falls .high-falls i node within)
+
 pub step-below :
     (d : Diagram) (s : List ℕ) → Facts d → (i : ℕ) → 2 ≤ i → i < idCount d → step d s i < i
-step-below d s facts i node within =
-    let f = facts .node i node within in step-cases (λ k. k < i) d s i (f .low-below) (f .high-below)
+step-below d s facts = step-falls d s (facts-fall d facts)
 
 -- no number of steps leaves an id that is its own step
 pub steps-stay : (d : Diagram) (s : List ℕ) (n i : ℕ) → step d s i ≡ i → steps d s n i ≡ i
@@ -83,7 +93,7 @@ walk-terminal d s k end =
     by-id (λ k. walkEnd d s k ≡ k) k (walk-zero d s) (walk-one d s) (λ (node : 2 ≤ k). absurd (omega arith))
 
 -- n steps come to a terminal from any id up to n + 1, and one step more does not move from there
-module _ (d : Diagram) (s : List ℕ) (facts : Facts d) where
+module _ (d : Diagram) (s : List ℕ) (falls : Falls d) where
   pub steps-end : (n i : ℕ) → i < idCount d → i ≤ suc n → (steps d s n i ≡ 0) ⊎ (steps d s n i ≡ 1)
   unfolding steps
   steps-end zero i within near =
@@ -100,7 +110,7 @@ module _ (d : Diagram) (s : List ℕ) (facts : Facts d) where
       (inl (steps-stay d s (suc n) 0 (step-zero d s)))
       (inr (steps-stay d s (suc n) 1 (step-one d s)))
       (λ (node : 2 ≤ i).
-      let below = step-below d s facts i node within in steps-end n (step d s i) (omega arith) (omega arith))
+      let below = step-falls d s falls i node within in steps-end n (step d s i) (omega arith) (omega arith))
 
   pub steps-more : (n i : ℕ) → i < idCount d → i ≤ suc n → steps d s (suc n) i ≡ steps d s n i
   unfolding steps
@@ -118,15 +128,29 @@ module _ (d : Diagram) (s : List ℕ) (facts : Facts d) where
       (rw (step-zero d s) (rw (step-zero d s) refl))
       (rw (step-one d s) (rw (step-one d s) refl))
       (λ (node : 2 ≤ i).
-      let below = step-below d s facts i node within in steps-more n (step d s i) (omega arith) (omega arith))
+      let below = step-falls d s falls i node within in steps-more n (step d s i) (omega arith) (omega arith))
 
+  pub walk-falls : (i : ℕ) → i < idCount d → walkEnd d s (step d s i) ≡ walkEnd d s i
+  unfolding walkEnd idCount steps
+  walk-falls i within = steps-more (length (d .nodes)) i within (omega arith)
+
+  -- an id whose step does not fall is a terminal, and the walk ends there
+  pub walk-stops : (i : ℕ) → i < idCount d → i ≤ step d s i → walkEnd d s i ≡ i
+  walk-stops i within stays =
+      by-id
+      (λ k. walkEnd d s k ≡ k)
+      i
+      (walk-zero d s)
+      (walk-one d s)
+      (λ (node : 2 ≤ i). absurd (omega (arith, step-falls d s falls i node within)))
+
+module _ (d : Diagram) (s : List ℕ) (facts : Facts d) where
   pub walk-ends : (i : ℕ) → i < idCount d → (walkEnd d s i ≡ 0) ⊎ (walkEnd d s i ≡ 1)
   unfolding walkEnd idCount
-  walk-ends i within = steps-end (length (d .nodes)) i within (omega arith)
+  walk-ends i within = steps-end d s (facts-fall d facts) (length (d .nodes)) i within (omega arith)
 
   pub walk-step : (i : ℕ) → i < idCount d → walkEnd d s (step d s i) ≡ walkEnd d s i
-  unfolding walkEnd idCount steps
-  walk-step i within = steps-more (length (d .nodes)) i within (omega arith)
+  walk-step = walk-falls d s (facts-fall d facts)
 
   -- so the walk from an id ends where the walk from the child that its switch selects does
   pub walk-high : (i : ℕ) → i < idCount d → eqb (getD s (switchAt d i) 0) 1 ≡ true → walkEnd d s i ≡ walkEnd d s (highAt d i)

@@ -1,12 +1,12 @@
 -- Document 01, "Job text": "The diagram walk goes from a node to the child its switch selects, until a terminal; children always
 -- have lower ids."
-use Prim.Native.Nat.{ℕ, zero, suc}
-use mathlib.Core.Bool.{Bool, true, false}
+use Prim.Native.Nat.{ℕ, zero, suc, _≤_, _<_}
+use mathlib.Core.Bool.{true, false}
 use mathlib.Core.List.{List}
 use lib.ListN.{length, getD}
 use lib.Dec.{eqb}
 use Rattle.common.specs.Lists.{bit}
-use Rattle.diagram.specs.Diagram.{Diagram, switchAt, lowAt, highAt}
+use Rattle.diagram.specs.Diagram.{Diagram, idCount, switchAt, lowAt, highAt}
 
 -- one step: L is taken when the switch is 0, H when it is 1. A terminal is its own child, so the walk stays there.
 unfoldable pub step : Diagram → List ℕ → ℕ → ℕ
@@ -24,3 +24,8 @@ walkEnd d setting i = steps d setting (length (d .nodes)) i
 -- "the diagram's value, 0 or 1": 1 when the walk ends at terminal 1
 unfoldable pub walkValue : Diagram → List ℕ → ℕ → ℕ
 walkValue d setting i = bit (eqb (walkEnd d setting i) 1)
+
+-- "children always have lower ids"
+pub record Falls (d : Diagram) : Type 0 where
+  pub low-falls : (i : ℕ) → 2 ≤ i → i < idCount d → lowAt d i < i
+  pub high-falls : (i : ℕ) → 2 ≤ i → i < idCount d → highAt d i < i

@@ -2,7 +2,7 @@
 use Prim.Native.Nat.{ℕ, zero, suc, _+_}
 use mathlib.Core.Bool.{Bool, true, false, _||_}
 use mathlib.Core.List.{List, [], _∷_, _++_}
-use lib.ListN.{length, getD}
+use lib.ListN.{length}
 use lib.Dec.{eqb, ltb}
 use Rattle.common.specs.Limits.{maxRows, maxColumns}
 use Rattle.common.specs.Lists.{bit, any-of}
@@ -14,6 +14,10 @@ hasRow d i = eqb (labelAt d i) 1 || eqb (labelAt d i) 3
 
 unfoldable pub hasColumn : Diagram → ℕ → Bool
 hasColumn d i = eqb (labelAt d i) 2 || eqb (labelAt d i) 3
+
+-- both at once: the label `h`, 1, for rows, and `v`, 2, for columns
+unfoldable pub hasWire : ℕ → Diagram → ℕ → Bool
+hasWire kind d i = eqb (labelAt d i) kind || eqb (labelAt d i) 3
 
 -- the ids below n of which has holds, in rising order
 unfoldable pub owners : (ℕ → Bool) → ℕ → List ℕ

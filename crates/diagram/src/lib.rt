@@ -1,4 +1,9 @@
-// Diagrams: nodes, children, labels, the walk.
+// Diagrams: nodes, children, labels, the tests of a job's lines, the wires, the walk. A diagram is held in four flat arrays, of which
+// the first n entries are the nodes in rising id.
+pub mod entry; // entry.rt: the entry of an id
+pub mod grounds; // grounds.rt: grounds 2 to 9 on one line each
+pub mod counts; // counts.rt: how many rows and columns there are
+pub mod walking; // walking.rt: the diagram walk
 
 // Document 01, "Job text": an entry of the node table, X, L, H and T (1 for `h`, 2 for `v`, 3 for `b`).
 pub struct Node {
@@ -7,3 +12,10 @@ pub struct Node {
     pub h: u16,
     pub t: u16,
 }
+
+// Document 01, "Job text": "1 for `h`, 2 for `v`, 3 for `b`"
+pub const LABEL_H: u16 = 1;
+
+pub const LABEL_V: u16 = 2;
+
+pub const LABEL_B: u16 = 3;
