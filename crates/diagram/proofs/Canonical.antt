@@ -12,7 +12,7 @@ use lib.Seq.{getD-set-same, getD-set-other}
 use lib.Dec.{eqb, leb}
 use borrow.Author.Tests.{eqb-true, eq-eqb, le-leb}
 use Rattle.common.specs.Lists.{bit, zeros, all-of}
-use Rattle.common.proofs.Lists.{eqb-bit, and-left, and-right, and-both, below-or-not, all-of-set, all-of-zeros}
+use Rattle.common.proofs.Lists.{eqb-bit, and-left, and-right, and-both, below-or-not}
 use Rattle.cells.specs.Setting.{isSetting}
 use Rattle.diagram.specs.Diagram.{Diagram, idCount, switchAt, lowAt, highAt}
 use Rattle.diagram.specs.Walk.{step, walkEnd}
@@ -26,6 +26,17 @@ unfolding isSetting
 setting-length v s h = eqb-true (length s) v (and-left (eqb (length s) v) (all-of (λ b. leb b 1) s) h)
 
 -- a setting with one switch fixed is a setting
+all-of-set : (f : ℕ → Bool) (l : List ℕ) (i a : ℕ) → f a ≡ true → all-of f l ≡ true → all-of f (set l i a) ≡ true
+unfolding all-of
+all-of-set f [] i a p h = h
+all-of-set f (b ∷ l) zero a p h = and-both (f a) (all-of f l) p (and-right (f b) (all-of f l) h)
+all-of-set f (b ∷ l) (suc i) a p h =
+    and-both
+    (f b)
+    (all-of f (set l i a))
+    (and-left (f b) (all-of f l) h)
+    (all-of-set f l i a p (and-right (f b) (all-of f l) h))
+
 pub setting-set : (v : ℕ) (s : List ℕ) (x b : ℕ) → b ≤ 1 → isSetting v s ≡ true → isSetting v (set s x b) ≡ true
 unfolding isSetting
 setting-set v s x b least h =
@@ -48,6 +59,11 @@ bit-most true = omega arith
 bit-most false = omega arith
 
 -- all switches at 0: there is a setting
+all-of-zeros : (n : ℕ) → all-of (λ b. leb b 1) (zeros n) ≡ true
+unfolding all-of
+all-of-zeros zero = refl
+all-of-zeros (suc n) = all-of-zeros n
+
 pub setting-zeros : (v : ℕ) → isSetting v (zeros v) ≡ true
 unfolding isSetting
 setting-zeros v =
@@ -55,7 +71,7 @@ setting-zeros v =
     (eqb (length (zeros v)) v)
     (all-of (λ b. leb b 1) (zeros v))
     (eq-eqb (length (zeros v)) v (length-replicate v 0))
-    (all-of-zeros (λ b. leb b 1) v refl)
+    (all-of-zeros v)
 
 -- the child that a switch at 1, and one at 0, selects
 unfoldable pub child : Diagram → Bool → ℕ → ℕ
