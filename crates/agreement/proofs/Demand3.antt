@@ -1,5 +1,5 @@
--- Demand 3: for each accepted text and the crossbar that map gives for it, readings, walks, rows, light and walk are as
--- specs/Demand3.antt says. Assumes nothing.
+-- Demand 3: for each accepted text, its crossbar, readings, walks, rows, light and walk are as specs/Demand3.antt says. Assumes
+-- nothing.
 use Prim.Native.Nat.{ℕ, _+_, _≤_, _<_}
 use mathlib.Core.Path.{_≡_, refl, sym, ap, _∙_}
 use mathlib.Core.Logic.{_↔_, _⊎_, inl, inr, ⊎-elim}
@@ -9,7 +9,7 @@ use native.Mathlib.Omega.{arith}
 use lib.ListN.{length, getD, length-map}
 use lib.Dec.{eqb, ltb}
 use borrow.Author.Tests.{ltb-true, lt-ltb, le-ltb, eqb-true, eq-eqb, not-false}
-use Rattle.common.specs.Lists.{bit}
+use Rattle.common.specs.Lists.{bit, padded}
 use Rattle.common.specs.Outcome.{Outcome, done, _then_, _when_, lowest, unless}
 use Rattle.common.proofs.Lists.{and-left, and-right, and-both, bit-one, getD-padded, getD-map-at, by-test, true-or-false}
 use Rattle.common.proofs.Outcome.{then-done, unless-done, not-met}
@@ -17,7 +17,7 @@ use Rattle.cells.specs.Record.{Whole, size}
 use Rattle.cells.specs.Setting.{isSetting}
 use Rattle.diagram.specs.Diagram.{Diagram, idCount}
 use Rattle.diagram.specs.Walk.{walkEnd, walkValue}
-use Rattle.diagram.specs.Wires.{rowCount}
+use Rattle.diagram.specs.Wires.{rowCount, columnCount}
 use Rattle.diagram.proofs.Facts.{Facts, Sizes}
 use Rattle.diagram.proofs.Walk.{walk-ends}
 use Rattle.diagram.proofs.Canonical.{canonical}
@@ -26,25 +26,16 @@ use Rattle.jobs.proofs.Accepted.{accepted-job}
 use Rattle.placement.specs.Placement.{cells, crossbar, outRow}
 use Rattle.placement.specs.Map.{mapJob}
 use Rattle.placement.proofs.Readings.{Reach, reads, outRow-below, outRow-injective, out-on-row}
-use Rattle.placement.proofs.Sound.{mapped-sound}
+use Rattle.placement.proofs.Sound.{mapped-sound, cells-count}
 use Rattle.conduction.specs.Chain.{Chain, Wire, row, place, Within}
 use Rattle.conduction.specs.Light.{Lit, light, joined, litBy}
-use Rattle.conduction.proofs.Light.{light-answers, light-accepts}
+use Rattle.conduction.proofs.Light.{light-answers, light-accepts, sound-row}
+use Rattle.agreement.proofs.Slices.{chain-same, joined-padded, sound-padded}
 use Rattle.agreement.specs.Demand3.{Demand3, Reads, WalksToOne, Answers, standsOn}
 
 -- the crossbar of a diagram
 abbrev whole : Diagram → Whole
 whole d = record { head = crossbar d; codes = cells d }
-
--- map gives that crossbar
-pub mapped-is : (text : List ℕ) (d : Diagram) (w : Whole) (room : ℕ) → accepted text ≡ done d → mapJob text room ≡ done w → w ≡ whole d
-unfolding mapJob
-mapped-is text d w room a m =
-    let taken = then-done (accepted text) _ w m in
-    let kept = unless-done _ 0 _ w (taken .2) in
-    let one : taken .0 ≡ d = cc in
-    let e : whole (taken .0) ≡ w = cc in
-    sym e ∙ ap whole one
 
 -- a byte that is 1 exactly when a statement holds, and is 0 or 1, answers it
 answers : (b : ℕ) (P : Type 0) → (b ≡ 0) ⊎ (b ≡ 1) → (b ≡ 1) ↔ P → Answers b P
@@ -134,26 +125,52 @@ module _ (text : List ℕ) (d : Diagram) (facts : Facts d) (sizes : Sizes d) whe
     (λ same setting s. rw same ((λ p. p), (λ p. p))),
   )
 
+  -- the crossbar in a slice of any length that holds it
+  some-row : 0 < rowCount d
+  unfolding crossbar
+  some-row = sound-row (crossbar d) (cells d) (mapped-sound d facts sizes)
+
+  conducts-alike :
+      (setting : List ℕ) (n : ℕ)
+      → size (crossbar d) ≤ n
+      → (r c : ℕ)
+      → r < rowCount d
+      → c < columnCount d
+      → joined (crossbar d) (padded n (cells d)) setting r c ≡ joined (crossbar d) (cells d) setting r c
+  unfolding crossbar
+  conducts-alike setting n fits = joined-padded (crossbar d) (cells d) n (cells-count d) fits setting
+
   shown :
-      (setting : List ℕ) (room : ℕ) (a : Lit) (j : ℕ)
-      → light (crossbar d) (cells d) setting room ≡ done a
+      (setting : List ℕ) (n room : ℕ) (a : Lit) (j : ℕ)
+      → size (crossbar d) ≤ n
+      → light (crossbar d) (padded n (cells d)) setting room ≡ done a
       → j < length (d .outs)
       → Answers (getD (a .wires) (standsOn (whole d) j) 0) (Reads (whole d) setting j)
   unfolding crossbar place Within
-  shown setting room a j lights h =
-      let answer = light-answers (crossbar d) (cells d) setting room a lights .answer in
+  shown setting n room a j fits lights h =
+      let answer = light-answers (crossbar d) (padded n (cells d)) setting room a lights .answer in
       let r = standsOn (whole d) j in
-      answers (getD (a .wires) r 0) (Reads (whole d) setting j) (answer .bits r) (answer .chains (row r) (row-within j h))
+      let alike = conducts-alike setting n fits in
+      let chains = answer .chains (row r) (row-within j h) in
+      answers (getD (a .wires) r 0) (Reads (whole d) setting j) (answer .bits r) (
+        (λ one. chain-same (rowCount d) (columnCount d) _ _ some-row alike (chains .0 one)),
+        (λ chain.
+            chains .1 (chain-same (rowCount d) (columnCount d) _ _ some-row (λ r c hr hc. sym (alike r c hr hc)) chain)),
+      )
 
   lights :
-      (setting : List ℕ) (room : ℕ)
+      (setting : List ℕ) (n room : ℕ)
+      → size (crossbar d) ≤ n
       → isSetting (d .switches) setting ≡ true
       → (crossbar d) .rows + (crossbar d) .columns ≤ room
-      → (a : Lit) × (light (crossbar d) (cells d) setting room ≡ done a)
+      → (a : Lit) × (light (crossbar d) (padded n (cells d)) setting room ≡ done a)
   unfolding crossbar
-  lights setting room s h = (
-    litBy (crossbar d) (cells d) setting,
-    light-accepts (crossbar d) (cells d) setting room (mapped-sound d facts sizes) s h,
+  lights setting n room fits s h = (
+    litBy (crossbar d) (padded n (cells d)) setting,
+    light-accepts (crossbar d) (padded n (cells d)) setting room
+        (sound-padded (crossbar d) (cells d) n (cells-count d) fits (mapped-sound d facts sizes))
+        s
+        h,
   )
 
 module _ (text : List ℕ) (d : Diagram) (facts : Facts d) (sizes : Sizes d) (taken : accepted text ≡ done d) where
@@ -188,20 +205,28 @@ module _ (text : List ℕ) (d : Diagram) (facts : Facts d) (sizes : Sizes d) (ta
       let fits = and-both (isSetting (d .switches) setting) (ltb j (length (d .outs))) s (lt-ltb j (length (d .outs)) h) in
       (walkValue d setting (getD (d .outs) j 0), walk-is setting j ∙ rw fits)
 
--- the claim, for every accepted text and the crossbar that map gives for it
-pub demand-3 :
-    (text : List ℕ) (d : Diagram) (w : Whole) (room : ℕ)
+-- map refuses an accepted job for a short buffer only
+always-mapped :
+    (text : List ℕ) (d : Diagram) (room : ℕ)
     → accepted text ≡ done d
-    → mapJob text room ≡ done w
-    → Demand3 text d w
+    → size (crossbar d) ≤ room
+    → mapJob text room ≡ done (whole d)
+unfolding mapJob _then_ lowest unless
+always-mapped text d room taken h = rw (taken, le-ltb room (size (crossbar d)) h)
+
+-- the claim, for every accepted text
+pub demand-3 : (text : List ℕ) (d : Diagram) → accepted text ≡ done d → Demand3 text d
 unfolding crossbar
-demand-3 text d w room taken mapped = rw (mapped-is text d w room taken mapped) (agrees (accepted-job text d taken .facts) (accepted-job text d taken .sizes))
+demand-3 text d taken = agrees (accepted-job text d taken .facts) (accepted-job text d taken .sizes)
   where
-    agrees : Facts d → Sizes d → Demand3 text d (whole d)
+    agrees : Facts d → Sizes d → Demand3 text d
     agrees facts sizes =
         record {
+          whole = whole d;
+          maps = λ room. always-mapped text d room taken;
           switches = refl;
           outputs = refl;
+          stands = stands text d facts sizes;
           reading = reading text d facts sizes;
           one-row = one-row text d facts sizes;
           shown = shown text d facts sizes;
@@ -209,12 +234,3 @@ demand-3 text d w room taken mapped = rw (mapped-is text d w room taken mapped) 
           walked = walked text d facts sizes taken;
           walks = walks text d facts sizes taken;
         }
-
--- map refuses an accepted job for a short buffer only
-pub always-mapped :
-    (text : List ℕ) (d : Diagram) (room : ℕ)
-    → accepted text ≡ done d
-    → size (crossbar d) ≤ room
-    → mapJob text room ≡ done (whole d)
-unfolding mapJob _then_ lowest unless
-always-mapped text d room taken h = rw (taken, le-ltb room (size (crossbar d)) h)

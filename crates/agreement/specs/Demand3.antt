@@ -1,23 +1,28 @@
--- Demand 3, from job text to readings: "two outputs read the same under every setting exactly when they stand on one row; and an
--- output reads 1 exactly when its walk ends at one; and light and walk, unless they refuse, answer that reading." The proof is
--- `demand-3` in proofs/Demand3.antt: for each text, diagram d and crossbar w, if `accepted text ≡ done d` and
--- `mapJob text room ≡ done w`, then `Demand3 text d w`.
+-- Demand 3, from job text to readings. For every text that is accepted, as a diagram d: map gives a crossbar for it, and for all of
+-- its outputs and all settings of its switches
+--   an output reads 1 exactly when its walk ends at one;
+--   two outputs read the same under every setting exactly when they stand on one row;
+--   light and walk, unless they refuse, answer that reading.
+-- The proof is `demand-3` in proofs/Demand3.antt: (text : List ℕ) (d : Diagram) → accepted text ≡ done d → Demand3 text d.
 use Prim.Native.Nat.{ℕ, _+_, _≤_, _<_}
 use mathlib.Core.Path.{_≡_}
 use mathlib.Core.Logic.{_↔_}
 use mathlib.Core.Bool.{true}
 use mathlib.Core.List.{List}
 use lib.ListN.{length, getD}
+use Rattle.common.specs.Lists.{padded}
 use Rattle.common.specs.Outcome.{done}
-use Rattle.cells.specs.Record.{Whole}
+use Rattle.cells.specs.Record.{Whole, size}
 use Rattle.cells.specs.Setting.{isSetting}
 use Rattle.diagram.specs.Diagram.{Diagram}
 use Rattle.diagram.specs.Walk.{walkEnd}
 use Rattle.jobs.specs.Job.{walk}
+use Rattle.placement.specs.Placement.{outRow}
+use Rattle.placement.specs.Map.{mapJob}
 use Rattle.conduction.specs.Chain.{Chain, row}
 use Rattle.conduction.specs.Light.{Lit, light, joined}
 
--- "An output stands on the row of the id that its line names ..; the record holds that row at J."
+-- "the record holds that row at J"
 abbrev pub standsOn : Whole → ℕ → ℕ
 standsOn w j = getD (w .head .outs) j 0
 
@@ -33,40 +38,47 @@ WalksToOne d setting j = walkEnd d setting (getD (d .outs) j 0) ≡ 1
 abbrev pub Answers : ℕ → Type 0 → Type 0
 Answers b P = ((b ≡ 1) ↔ P) × ((b ≡ 0) ↔ (P → ⊥))
 
--- d is what the accepted text says, w its crossbar
-pub record Demand3 (text : List ℕ) (d : Diagram) (w : Whole) : Type 0 where
-  -- the record has the job's switches and outputs
-  pub switches : w .head .switches ≡ d .switches
-  pub outputs : w .head .outputs ≡ length (d .outs)
+-- d is what the accepted text says
+pub record Demand3 (text : List ℕ) (d : Diagram) : Type 0 where
+  -- "Its crossbar is the cells and record that map gives for it into a buffer long enough."
+  pub whole : Whole
+  pub maps : (room : ℕ) → size (whole .head) ≤ room → mapJob text room ≡ done whole
+  -- the record has the job's switches and outputs, and "An output stands on the row of the id that its line names, or for id 0 on the
+  -- last row without cells"
+  pub switches : whole .head .switches ≡ d .switches
+  pub outputs : whole .head .outputs ≡ length (d .outs)
+  pub stands : (j : ℕ) → j < length (d .outs) → standsOn whole j ≡ outRow d (getD (d .outs) j 0)
   -- an output reads 1 exactly when its walk ends at one
   pub reading :
       (setting : List ℕ) (j : ℕ)
       → isSetting (d .switches) setting ≡ true
       → j < length (d .outs)
-      → Reads w setting j ↔ WalksToOne d setting j
+      → Reads whole setting j ↔ WalksToOne d setting j
   -- two outputs read the same under every setting exactly when they stand on one row
   pub one-row :
       (i j : ℕ)
       → i < length (d .outs)
       → j < length (d .outs)
-      → ((setting : List ℕ) → isSetting (d .switches) setting ≡ true → Reads w setting i ↔ Reads w setting j)
-      ↔ (standsOn w i ≡ standsOn w j)
-  -- light, given this crossbar and a setting, answers the reading at the output's row, unless it refuses
+      → ((setting : List ℕ) → isSetting (d .switches) setting ≡ true → Reads whole setting i ↔ Reads whole setting j)
+      ↔ (standsOn whole i ≡ standsOn whole j)
+  -- light, given this crossbar, in a slice of any length that holds it with zeros past it, and a setting, answers the reading at the
+  -- output's row, unless it refuses
   pub shown :
-      (setting : List ℕ) (room : ℕ) (a : Lit) (j : ℕ)
-      → light (w .head) (w .codes) setting room ≡ done a
+      (setting : List ℕ) (length-of-slice room : ℕ) (a : Lit) (j : ℕ)
+      → size (whole .head) ≤ length-of-slice
+      → light (whole .head) (padded length-of-slice (whole .codes)) setting room ≡ done a
       → j < length (d .outs)
-      → Answers (getD (a .wires) (standsOn w j) 0) (Reads w setting j)
-  -- it does not refuse a setting of the job's switches and a buffer of R + C bytes
+      → Answers (getD (a .wires) (standsOn whole j) 0) (Reads whole setting j)
+  -- it refuses neither a setting of the job's switches nor a buffer of R + C bytes
   pub lights :
-      (setting : List ℕ) (room : ℕ)
+      (setting : List ℕ) (length-of-slice room : ℕ)
+      → size (whole .head) ≤ length-of-slice
       → isSetting (d .switches) setting ≡ true
-      → w .head .rows + w .head .columns ≤ room
-      → (a : Lit) × (light (w .head) (w .codes) setting room ≡ done a)
+      → whole .head .rows + whole .head .columns ≤ room
+      → (a : Lit) × (light (whole .head) (padded length-of-slice (whole .codes)) setting room ≡ done a)
   -- walk, given the job, a setting and an output number, answers the reading, unless it refuses
-  pub walked :
-      (setting : List ℕ) (j v : ℕ) → walk text setting j ≡ done v → Answers v (Reads w setting j)
-  -- it does not refuse a setting of the job's switches and an output number below K
+  pub walked : (setting : List ℕ) (j v : ℕ) → walk text setting j ≡ done v → Answers v (Reads whole setting j)
+  -- it refuses neither a setting of the job's switches nor an output number below K
   pub walks :
       (setting : List ℕ) (j : ℕ)
       → isSetting (d .switches) setting ≡ true

@@ -9,7 +9,6 @@ use Rattle.figures.specs.Bytes.{bytes}
 use Rattle.cells.specs.declared.Cell.the-variants.{On, Yes, No}
 use Rattle.cells.specs.Code.{codeOf}
 use Rattle.cells.specs.Record.{Whole}
-use Rattle.common.specs.Lists.{padded}
 use Rattle.diagram.specs.Diagram.{Diagram}
 use Rattle.conduction.specs.Light.{Lit, light}
 use Rattle.placement.specs.Map.{mapJob}
@@ -37,7 +36,7 @@ lamp setting o =
 unfoldable pub jobA : List ℕ
 jobA = bytes "(job 2 2 1)\n(one h)\n(node 2 1 (0 1) v)\n(node 3 0 (0 2) h)\n(out 0 3)\n(end)\n"
 
--- sheet A as a diagram and as a crossbar
+-- sheet A as a diagram
 unfoldable pub diagramA : Diagram
 diagramA =
     record {
@@ -45,13 +44,6 @@ diagramA =
       one = 1;
       nodes = record { x = 1; l = 0; h = 1; t = 2 } ∷ record { x = 0; l = 0; h = 2; t = 1 } ∷ [];
       outs = 3 ∷ [];
-    }
-
-unfoldable pub wholeA : Whole
-wholeA =
-    record {
-      head = record { rows = 2; columns = 1; switches = 2; outputs = 1; outs = padded 32 (1 ∷ []) };
-      codes = codeOf (Yes 1) ∷ codeOf (Yes 0) ∷ [];
     }
 
 unfoldable pub listingA : List ℕ

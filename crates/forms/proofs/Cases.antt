@@ -1,60 +1,34 @@
--- The form of a line, kind by kind: a form of one kind has the values of that kind's template, and a line has the values of a
--- template just where its form is of that kind. Assumes nothing.
+-- The form of a line, kind by kind: which form is made where the templates before it do not fit, and that the form of a line has
+-- the values of one kind just where the line fits that kind's template. Assumes nothing.
 use Prim.Native.Nat.{ℕ, zero, suc, _+_, _-_, _<_, _≤_}
-use Prim.Native.String.{String}
 use mathlib.Core.Path.{_≡_, refl, sym, ap, subst, _∙_}
 use mathlib.Core.Logic.{⊎-elim}
 use mathlib.Core.Bool.{Bool, true, false, not}
 use mathlib.Core.Option.{Option, some, none, Option·map}
-use mathlib.Core.List.{List, [], _∷_, _++_}
+use mathlib.Core.List.{List, [], _∷_}
 use native.Mathlib.Omega.{arith}
-use lib.ListN.{length, getD, List·getD-append, List·getD-eq-default, getD-replicate, length-append, length-replicate}
+use lib.ListN.{length, getD, List·getD-eq-default}
 use lib.Seq.{ext-getD, getD-append-add}
-use lib.Dec.{T, eqb, leb}
-use borrow.Author.Tests.{eqb-true, eqb-false, eq-eqb, ne-eqb, leb-true, le-leb}
+use lib.Dec.{T, eqb, leb, ltb}
+use borrow.Author.Tests.{eqb-true, eq-eqb, leb-true, le-leb, lt-leb, le-ltb}
 use types.Run.{OneOf, miss}
 use mir.Val.{hasKey}
 use denote.Enum.Declared.{tagOf}
 use Rattle.common.specs.Lists.{zeros, padded, tab, all-of}
 use Rattle.common.proofs.Lists.{by-test, below-or-not, length-tab, getD-tab, getD-padded, true-or-false}
 use Rattle.figures.specs.Bytes.{bytes, after}
-use Rattle.cells.specs.declared.Cell.the-variants.{On, Yes, No}
 use Rattle.forms.specs.declared.Values.{Values}
+use Rattle.forms.specs.declared.JobForm.{JobForm}
+use Rattle.forms.specs.declared.NodeForm.{NodeForm}
+use Rattle.forms.specs.declared.OutForm.{OutForm}
+use Rattle.forms.specs.declared.SizeForm.{SizeForm}
+use Rattle.forms.specs.declared.CellForm.{CellForm}
 use Rattle.forms.specs.declared.Form.{Form}
 use Rattle.forms.specs.declared.Form.the-variants as form
-use Rattle.forms.specs.Template.{Template, Item, word, figure, label, values}
+use Rattle.forms.specs.Template.{Template, word, figure, label, values}
 use Rattle.forms.specs.Forms.{jobForm, oneForm, nodeForm, outForm, endForm, crossbarForm, onForm, yesForm, noForm}
 use Rattle.forms.specs.Pattern.{isItem, valuesBy, refusedValues, handed, answerOf}
-use Rattle.forms.specs.Form.{
-  Placed,
-  placed,
-  switchOf,
-  cappedCell,
-  capped,
-  jobOf,
-  oneOf,
-  nodeOf,
-  outOf,
-  endOf,
-  sizeOf,
-  onOf,
-  yesOf,
-  noOf,
-  notDue,
-  either,
-  cellLine,
-  formOf,
-  kindOf,
-  valuesIn,
-  ofKind,
-  asJob,
-  asOne,
-  asNode,
-  asOut,
-  asEnd,
-  asSize,
-  asCell,
-}
+use Rattle.forms.specs.Form.{placed, switchOf, cappedCell, capped, jobOf, oneOf, nodeOf, outOf, endOf, sizeOf, onOf, yesOf, noOf, notDue, either, cellLine, formOf, kindOf, valuesIn, ofKind, asJob, asOne, asNode, asOut, asEnd, asSize, asCell}
 use Rattle.forms.proofs.Form.{the-type}
 use Rattle.forms.proofs.Template.{Fits, word-values, written-values}
 use Rattle.forms.proofs.Pattern.{patternOf, plain, plainByte, values-by}
@@ -229,6 +203,23 @@ yes-same vs = rw (getD-pad vs 0, getD-pad vs 1, getD-pad vs 2)
 pub no-same : (vs : List ℕ) → noOf (padded 5 vs) ≡ noOf vs
 unfolding noOf
 no-same vs = rw (getD-pad vs 0, getD-pad vs 1, getD-pad vs 2)
+
+-- a switch up to 255 is taken as it is, and whether a switch is below a number of switches up to 255 is not changed
+pub switch-same : (x : ℕ) → x ≤ 255 → switchOf x ≡ x
+unfolding switchOf
+switch-same x h = rw (le-leb x 255 h, switchOf)
+
+switch-high : (x : ℕ) → 255 < x → switchOf x ≡ 255
+unfolding switchOf
+switch-high x h = rw (lt-leb x 255 h, switchOf)
+
+pub switch-below : (v x : ℕ) → v ≤ 255 → ltb (switchOf x) v ≡ ltb x v
+switch-below v x h =
+    ⊎-elim (λ (k : x < 256). let k' : x ≤ 255 = omega arith in ap (λ (y : ℕ). ltb y v) (switch-same x k'))
+    (λ (k : 256 ≤ x).
+    let e : switchOf x ≡ 255 = switch-high x (omega arith) in
+    le-ltb (switchOf x) v (omega arith) ∙ sym (le-ltb x v (omega arith)))
+    (below-or-not x 256)
 
 -- whether two words differ at a place that both have
 unfoldable pub differ : List ℕ → List ℕ → Bool
@@ -475,6 +466,35 @@ module _ (l : List ℕ) (n : ℕ) where
       at-cell asCell (Option·map capped (placed l)) l n (λ vs e. rw (e, placed)) (λ vs a e. rw (a, e, placed))
       (λ vs a b e. rw (a, b, e, placed))
       (λ a b e. rw (a, b, e, placed)))
+
+-- the values of a form of its own kind
+pub is-job : (r : JobForm) → asJob (form.Job r) ≡ some (r .switches ∷ r .nodes ∷ r .outputs ∷ [])
+unfolding ofKind kindOf valuesIn
+is-job r = refl
+
+pub is-node : (r : NodeForm) → asNode (form.Node r) ≡ some (r .id ∷ r .x ∷ r .l ∷ r .h ∷ r .t ∷ [])
+unfolding ofKind kindOf valuesIn
+is-node r = refl
+
+pub is-out : (r : OutForm) → asOut (form.Out r) ≡ some (r .number ∷ r .target ∷ [])
+unfolding ofKind kindOf valuesIn
+is-out r = refl
+
+pub is-size : (r : SizeForm) → asSize (form.Size r) ≡ some (r .rows ∷ r .columns ∷ r .switches ∷ r .outputs ∷ [])
+unfolding ofKind kindOf valuesIn
+is-size r = refl
+
+pub is-one : (t : ℕ) → asOne (form.One t) ≡ some (t ∷ [])
+unfolding ofKind kindOf valuesIn
+is-one t = refl
+
+pub is-end : asEnd form.End ≡ some []
+unfolding ofKind kindOf valuesIn
+is-end = refl
+
+pub is-cell : (r : CellForm) → asCell (form.Cell r) ≡ some (record { row = r .row; column = r .column; cell = r .cell })
+unfolding asCell
+is-cell r = refl
 
 -- where a line is not the form due: the tag is one of the others
 tag-kind : (f : Form) → tagOf the-type f ≡ kindOf f
