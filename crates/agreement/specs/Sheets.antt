@@ -1,9 +1,10 @@
 -- Document 01, "Job sheets": the starred ones, A to H, as one table. Each entry has what the definitions give and what the sheet
 -- says; proofs/Sheets.antt shows that they are equal.
-use Prim.Native.Nat.{ℕ}
+use Prim.Native.Nat.{ℕ, _+_}
 use Prim.Native.String.{String}
 use mathlib.Core.List.{List, [], _∷_, _++_}
 use lib.ListN.{take}
+use Rattle.common.specs.Limits.{maxRows, maxColumns}
 use Rattle.common.specs.Outcome.{Outcome, numberOf, lineOf, valueOf}
 use Rattle.figures.specs.Bytes.{bytes}
 use Rattle.cells.specs.declared.Cell.the-variants.{On, Yes, No}
@@ -31,7 +32,7 @@ refusal o = numberOf o ∷ lineOf o ∷ []
 -- the rounds and the lit wires of a crossbar under a setting
 unfoldable pub lamp : List ℕ → Outcome Whole → List ℕ
 lamp setting o =
-    valueOf [] (λ w. valueOf [] (λ a. a .count ∷ a .wires) (light (w .head) (w .codes) setting 256)) o
+    valueOf [] (λ w. valueOf [] (λ a. a .count ∷ a .wires) (light (w .head) (w .codes) setting (maxRows + maxColumns))) o
 
 unfoldable pub jobA : List ℕ
 jobA = bytes "(job 2 2 1)\n(one h)\n(node 2 1 (0 1) v)\n(node 3 0 (0 2) h)\n(out 0 3)\n(end)\n"

@@ -24,13 +24,13 @@ unfoldable pub printed : Outcome (List ℕ) → List ℕ
 printed (done s) = s
 printed (refused k n) = line refusedForm (k ∷ n ∷ [])
 
--- "In both programs input above 65,535 bytes is `(refused 14 0)`."
-unfoldable pub within : List ℕ → Outcome (List ℕ) → Outcome (List ℕ)
-within s rest = unless (lowest ((14 when ltb maxInput (length s)) ∷ [])) 0 rest
+-- what is to follow, unless the input is too long: "In both programs input above 65,535 bytes is `(refused 14 0)`."
+unfoldable pub inputFits : List ℕ → Outcome (List ℕ) → Outcome (List ℕ)
+inputFits s rest = unless (lowest ((14 when ltb maxInput (length s)) ∷ [])) 0 rest
 
 -- "The first reads a job from standard input and prints the listing, or `(refused n line)`."
 unfoldable pub mapProgram : List ℕ → List ℕ
-mapProgram s = printed (within s (mapJob s (maxRows * maxColumns) then λ w. done (listing (w .head) (w .codes))))
+mapProgram s = printed (inputFits s (mapJob s (maxRows * maxColumns) then λ w. done (listing (w .head) (w .codes))))
 
 -- how many blanks (byte 32) a line has
 unfoldable pub blanks : List ℕ → ℕ
@@ -58,16 +58,16 @@ readsLines wires j (r ∷ rs) = line readsForm (j ∷ getD wires r 0 ∷ []) ++ 
 unfoldable pub readings : Crossbar → Lit → List ℕ
 readings x a = line roundsForm (a .count ∷ []) ++ readsLines (a .wires) 0 (take (x .outputs) (x .outs)) ++ line endForm []
 
--- a setting from the set line, and a crossbar: "a set line with the wrong number of figures is `(refused 13 0)` after the listing
+-- light on the loaded crossbar under the set line's setting, then its readings: "a set line with the wrong number of figures is `(refused 13 0)` after the listing
 -- passes"
-unfoldable pub lit : List ℕ → Whole → Outcome (List ℕ)
-lit setting w =
+unfoldable pub lightAndRead : List ℕ → Whole → Outcome (List ℕ)
+lightAndRead setting w =
     light (w .head) (w .codes) setting (maxRows + maxColumns) then λ a. done (readings (w .head) a)
 
 -- "The second reads a line `(set 1 1)` and then a listing. Its lines count over the whole input": the listing's first is line 2
 unfoldable pub lightProgram : List ℕ → List ℕ
 lightProgram s =
     printed
-    (within s
+    (inputFits s
     (setLine (linesOf s)
-    then λ o. loadFrom 2 (o .later) then λ x. lit (o .vals) (record { head = recordOf x; codes = cellsOf x })))
+    then λ o. loadFrom 2 (o .later) then λ x. lightAndRead (o .vals) (record { head = recordOf x; codes = cellsOf x })))
