@@ -1,4 +1,6 @@
 // A cell, its code, when it conducts, and the crossbar record.
+pub mod checks;
+
 use common::MAX_OUTPUTS;
 ghost use mathlib.Core.Path.{_≡_};
 ghost use lib.ListN.{getD};

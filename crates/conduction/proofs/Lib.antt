@@ -3,3 +3,8 @@ pub mod Chains
 pub mod Settles
 pub mod Count
 pub mod Light
+pub mod Stamps
+pub mod Marks
+pub mod Counting
+pub mod Shown
+pub mod Promise

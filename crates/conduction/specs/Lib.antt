@@ -1,3 +1,4 @@
 pub mod Round
 pub mod Chain
 pub mod Light
+pub mod First

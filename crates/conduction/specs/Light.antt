@@ -1,13 +1,16 @@
 -- light's answer: crossbar and setting in; the lit wires and the rounds out.
 use Prim.Native.Nat.{ℕ, _+_, _-_}
+use mathlib.Core.Path.{_≡_}
 use mathlib.Core.Bool.{Bool, not}
 use mathlib.Core.List.{List, [], _∷_}
+use lib.ListN.{length}
 use lib.Dec.{ltb}
-use Rattle.common.specs.Outcome.{Outcome, done, _when_, lowest, unless}
+use Rattle.common.specs.Outcome.{Outcome, done, _when_, lowest, unless, refusalOf, valueOf, bufferOf}
 use Rattle.cells.specs.declared.Crossbar.{Crossbar}
 use Rattle.cells.specs.Conducts.{joins}
 use Rattle.cells.specs.Record.{sound}
 use Rattle.cells.specs.Setting.{isSetting}
+use Rattle.conduction.specs.declared.Lighted.{Lighted}
 use Rattle.conduction.specs.Round.{rounds, roundCount, atRest}
 
 -- the count of rounds, and the set at rest
@@ -41,3 +44,12 @@ light x cells setting room =
     ∷ []))
     0
     (done (litBy x cells setting))
+
+-- the answer as the call hands it over
+unfoldable pub lighted : Outcome Lit → Lighted
+lighted o = record { refusal = refusalOf o; rounds = valueOf 0 (λ a. a .count) o }
+
+-- what light promises of its answer r and of the buffer lent, by its bytes before and after the call
+pub record Answers (x : Crossbar) (cells setting before after : List ℕ) (r : Lighted) : Type 0 where
+  pub answer : r ≡ lighted (light x cells setting (length before))
+  pub bytes : after ≡ bufferOf (length before) (λ a. a .wires) (light x cells setting (length before))
