@@ -122,8 +122,8 @@ pub fn is_sound(x: Crossbar, cells: &[u8]) -> bool
 pub fn is_setting(switches: u16, setting: &[u8]) -> bool
     ensures { λ r. ⌜ r ≡ isSetting switches (now (setting .entry)) ⌝ }
 {
-    if setting.len() != switches as usize {
-        return false;
+    if setting.len() == switches as usize {
+        return at_most(setting, setting.len(), 1);
     }
-    at_most(setting, setting.len(), 1)
+    false
 }

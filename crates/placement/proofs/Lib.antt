@@ -4,3 +4,10 @@ pub mod Readings
 pub mod Count
 pub mod Sentences
 pub mod Sound
+pub mod Running
+pub mod Labels
+pub mod Edges
+pub mod Heads
+pub mod Filled
+pub mod Mapped
+pub mod Arrays

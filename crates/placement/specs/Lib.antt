@@ -1,2 +1,3 @@
 pub mod Placement
 pub mod Map
+pub mod Stores

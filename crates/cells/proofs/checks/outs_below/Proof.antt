@@ -2,7 +2,7 @@
 use Prim.Native.Nat.{_-_}
 use mathlib.Core.Path.{_≡_, refl, sym, _∙_}
 use native.Mathlib.Omega.{arith}
-use lib.ListN.{length, take, drop}
+use lib.ListN.{getD, take, drop}
 use lib.Dec.{ltb}
 use borrow.Author.Needs.{needs}
 use borrow.Author.Tests.{lt-ltb, le-ltb}
@@ -38,7 +38,7 @@ returns c =
     sym
     (at-loop .loop .inv
     ∙ all-first-failed (λ o. ltb o (args .rows)) (args .t1) (args .n) (at-loop .loop .i) (omega arith) (omega arith)
-    (le-ltb _ _ (c .if1 .taken)))
+    (le-ltb (getD (args .t1) (at-loop .loop .i) 0) (args .rows) (omega (arith, c .if1 .taken))))
 
 add-i : tie.Need-add-i Inv-loop μ-loop
 unfolding maxOutputs
@@ -55,7 +55,7 @@ loop-again c =
     let args = at-loop .before .args in
     at-loop .loop .inv
     ∙ all-first-passed (λ o. ltb o (args .rows)) (args .t1) (args .n) (at-loop .loop .i) (omega arith) (omega arith)
-    (lt-ltb _ _ (c .if1 .left))
+    (lt-ltb (getD (args .t1) (at-loop .loop .i) 0) (args .rows) (omega (arith, c .if1 .left)))
 
 returns-2 : tie.Need-returns-2 Inv-loop μ-loop
 unfolding maxOutputs

@@ -38,7 +38,7 @@ from-wire-requires c κs =
     let at-loop = c .before .before in
     let start = at-loop .before .before .before .before in (
       omega arith,
-      start .pre .0,
+      omega (arith, start .pre .0),
       record {
         cells-fit = start .pre .1 .cells-fit;
         wires-fit = omega (arith, at-loop .loop .inv .1, start .pre .1 .wires-fit);

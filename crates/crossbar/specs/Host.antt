@@ -1,0 +1,55 @@
+-- The five calls as the buyer's C program meets them, on numbers and byte slices. Each answers one number: the refusal's number times
+-- 2 to the 56th, plus the line; or, where nothing is refused, the call's value.
+use Prim.Native.Nat.{ℕ, _+_, _*_, _^_}
+use mathlib.Core.Bool.{not}
+use mathlib.Core.List.{List, [], _∷_}
+use lib.ListN.{length}
+use lib.Dec.{eqb, ltb}
+use Rattle.common.specs.Outcome.{Outcome, done, refused, _then_, _when_, lowest, unless, bufferOf}
+use Rattle.cells.specs.Record.{Whole, size}
+use Rattle.jobs.specs.Job.{walk}
+use Rattle.placement.specs.Map.{mapJob}
+use Rattle.conduction.specs.Light.{Lit, light}
+use Rattle.listings.specs.Listing.{print}
+use Rattle.listings.specs.Loading.{load}
+use Rattle.crossbar.specs.Bytes.{recordLength, recordBytes, recordFrom}
+
+-- one number for an outcome, by the value of what is done
+unfoldable pub packed : {A : Type 0} → (A → ℕ) → Outcome A → ℕ
+packed value (done a) = value a
+packed value (refused k n) = k * 2 ^ 56 + n
+
+-- a crossbar for two buffers: ground 14 also where the record's is shorter than a record, line 0
+unfoldable pub forRecord : ℕ → Outcome Whole → Outcome Whole
+forRecord room o = o then λ w. unless (lowest ((14 when ltb room recordLength) ∷ [])) 0 (done w)
+
+-- a crossbar's value: R·C
+unfoldable pub cellsDue : Whole → ℕ
+cellsDue w = size (w .head)
+
+-- the record's buffer and the cells' buffer, of n bytes
+unfoldable pub recordBuffer : ℕ → Outcome Whole → List ℕ
+recordBuffer n o = bufferOf n (λ w. recordBytes (w .head)) o
+
+unfoldable pub cellsBuffer : ℕ → Outcome Whole → List ℕ
+cellsBuffer n o = bufferOf n (λ w. w .codes) o
+
+-- map: job text, and the lengths of the two buffers
+unfoldable pub hostMap : List ℕ → ℕ → ℕ → Outcome Whole
+hostMap text record-room cells-room = forRecord record-room (mapJob text cells-room)
+
+-- load: listing text, and the lengths of the two buffers
+unfoldable pub hostLoad : List ℕ → ℕ → ℕ → Outcome Whole
+hostLoad text record-room cells-room = forRecord record-room (load text cells-room)
+
+-- ground 12 on a record that is handed over as bytes: also where there are not as many as a record has, line 0
+unfoldable pub ofRecord : {A : Type 0} → List ℕ → Outcome A → Outcome A
+ofRecord s rest = unless (lowest ((12 when not (eqb (length s) recordLength)) ∷ [])) 0 rest
+
+-- light: the record's bytes, cells, setting, and the length of the buffer
+unfoldable pub hostLight : List ℕ → List ℕ → List ℕ → ℕ → Outcome Lit
+hostLight s cells setting room = ofRecord s (light (recordFrom s) cells setting room)
+
+-- print: the record's bytes, cells, and the length of the buffer
+unfoldable pub hostPrint : List ℕ → List ℕ → ℕ → Outcome (List ℕ)
+hostPrint s cells room = ofRecord s (print (recordFrom s) cells room)

@@ -1,0 +1,132 @@
+-- Stores into a buffer of zeros, each of what is to stand at its place: in any order, once each place that is not to be 0 has its
+-- store, the buffer is as it is to be. Assumes nothing.
+use Prim.Native.Nat.{ℕ, zero, suc, _+_, _≤_, _<_}
+use mathlib.Core.Path.{_≡_, refl, sym, ap, _∙_}
+use mathlib.Core.Logic.{_⊎_, inl, inr, ⊎-elim}
+use mathlib.Core.Bool.{Bool, true, false}
+use mathlib.Core.List.{List, []}
+use native.Mathlib.Omega.{arith}
+use lib.ListN.{length, getD, set, length-set, length-replicate}
+use lib.Seq.{getD-set-same, getD-set-other, ext-getD}
+use Rattle.common.specs.Lists.{zeros}
+use Rattle.common.proofs.Lists.{by-test, true-or-false, equal-or-not, at-or-below}
+use Rattle.placement.specs.Stores.{puts}
+use Rattle.placement.proofs.Edges.{put-on, put-off}
+
+-- what stands at a place is what is to stand there
+abbrev pub Filled : List ℕ → List ℕ → ℕ → Type 0
+Filled target s p = getD s p 0 ≡ getD target p 0
+
+-- at each place stands 0 or what is to stand there
+pub record Partly (target s : List ℕ) : Type 0 where
+  pub long : length s ≡ length target
+  pub right : (p : ℕ) → (getD s p 0 ≡ 0) ⊎ Filled target s p
+
+pub getD-zeros : (n i : ℕ) → getD (zeros n) i 0 ≡ 0
+getD-zeros zero i = refl
+getD-zeros (suc n) zero = refl
+getD-zeros (suc n) (suc i) = getD-zeros n i
+
+pub partly-zeros : (target : List ℕ) → Partly target (zeros (length target))
+partly-zeros target = record { long = length-replicate (length target) 0; right = λ p. inl (getD-zeros (length target) p) }
+
+-- once each place that is not to be 0 is filled
+pub all-filled : (target s : List ℕ) → Partly target s → ((p : ℕ) → p < length target → (getD target p 0 ≡ 0 → ⊥) → Filled target s p) → s ≡ target
+all-filled target s partly filled =
+    ext-getD 0 s target (partly .long)
+    (λ p within.
+    ⊎-elim
+    (λ (none : getD target p 0 ≡ 0).
+    ⊎-elim (λ (e : getD s p 0 ≡ 0). e ∙ sym none) (λ (e : Filled target s p). e) (partly .right p))
+    (λ (some : getD target p 0 ≡ 0 → ⊥). filled p (omega (arith, partly .long)) some)
+    (equal-or-not (getD target p 0) 0))
+
+module _ (target : List ℕ) where
+  -- a store fills its place, and keeps those that are filled
+  store-new : (s : List ℕ) (p a : ℕ) → Partly target s → p < length target → getD target p 0 ≡ a → Filled target (set s p a) p
+  store-new s p a partly within e = getD-set-same s p a 0 (omega (arith, partly .long)) ∙ sym e
+
+  -- what stands at a place after a store
+  store-at : (s : List ℕ) (p a q : ℕ) → Partly target s → p < length target → getD target p 0 ≡ a → Filled target (set s p a) q ⊎ (getD (set s p a) q 0 ≡ getD s q 0)
+  store-at s p a q partly within e =
+      ⊎-elim
+      (λ (same : q ≡ p). inl (rw same (store-new s p a partly within e)))
+      (λ (other : q ≡ p → ⊥). inr (getD-set-other s p q a 0 other))
+      (equal-or-not q p)
+
+  store-kept : (s : List ℕ) (p a q : ℕ) → Partly target s → p < length target → getD target p 0 ≡ a → Filled target s q → Filled target (set s p a) q
+  store-kept s p a q partly within e filled =
+      ⊎-elim (λ (f : Filled target (set s p a) q). f) (λ (f : getD (set s p a) q 0 ≡ getD s q 0). f ∙ filled) (store-at s p a q partly within e)
+
+  store-partly : (s : List ℕ) (p a : ℕ) → Partly target s → p < length target → getD target p 0 ≡ a → Partly target (set s p a)
+  store-partly s p a partly within e =
+      record {
+        long = length-set s p a ∙ partly .long;
+        right = λ q.
+            ⊎-elim
+            (λ (f : Filled target (set s p a) q). inr f)
+            (λ (f : getD (set s p a) q 0 ≡ getD s q 0).
+            ⊎-elim
+            (λ (none : getD s q 0 ≡ 0). inl (f ∙ none))
+            (λ (filled : Filled target s q). inr (f ∙ filled))
+            (partly .right q))
+            (store-at s p a q partly within e);
+      }
+
+  -- a buffer after stores: what was filled is kept, and the places of the stores are filled
+  pub record Stored (test : ℕ → Bool) (place : ℕ → ℕ) (n : ℕ) (before after : List ℕ) : Type 0 where
+    pub partly : Partly target after
+    pub kept : (q : ℕ) → Filled target before q → Filled target after q
+    pub filled : (k : ℕ) → k < n → test k ≡ true → Filled target after (place k)
+
+  module _ (test : ℕ → Bool) (place code : ℕ → ℕ) where
+    one-more :
+        (n : ℕ) (before s : List ℕ)
+        → Stored test place n before s
+        → place n < length target
+        → getD target (place n) 0 ≡ code n
+        → Stored test place (suc n) before (set s (place n) (code n))
+    one-more n before s after within e =
+        record {
+          partly = store-partly s (place n) (code n) (after .partly) within e;
+          kept = λ q f. store-kept s (place n) (code n) q (after .partly) within e (after .kept q f);
+          filled = λ k h on.
+              ⊎-elim
+              (λ (last : k ≡ n). rw last (store-new s (place n) (code n) (after .partly) within e))
+              (λ (below : k < n). store-kept s (place n) (code n) (place k) (after .partly) within e (after .filled k below on))
+              (at-or-below k n h);
+        }
+
+    none-more :
+        (n : ℕ) (before s : List ℕ) → Stored test place n before s → test n ≡ false → Stored test place (suc n) before s
+    none-more n before s after off =
+        record {
+          partly = after .partly;
+          kept = after .kept;
+          filled = λ k h on.
+              ⊎-elim
+              (λ (last : k ≡ n). absurd (true-or-false (test n) (rw last at on) off))
+              (λ (below : k < n). after .filled k below on)
+              (at-or-below k n h);
+        }
+
+    -- stores of what is to stand at their places
+    pub all-stored :
+        (n : ℕ) (s : List ℕ)
+        → Partly target s
+        → ((k : ℕ) → k < n → test k ≡ true → (place k < length target) × (getD target (place k) 0 ≡ code k))
+        → Stored test place n s (puts test place code n s)
+    unfolding puts
+    all-stored zero s partly right =
+        record { partly = partly; kept = λ q f. f; filled = λ k h on. absurd (omega arith) }
+    all-stored (suc n) s partly right =
+        let after = all-stored n s partly (λ k h. right k (omega arith)) in
+        ⊎-elim
+        (λ (on : test n ≡ true).
+        let to = right n (omega arith) on in
+        rw (put-on (test n) (place n) (code n) (puts test place code n s) on)
+        (one-more n s (puts test place code n s) after (to .0) (to .1)))
+        (λ (off : test n ≡ false).
+        rw (put-off (test n) (place n) (code n) (puts test place code n s) off)
+        (none-more n s (puts test place code n s) after off))
+        (by-test (test n))

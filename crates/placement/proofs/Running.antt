@@ -1,0 +1,60 @@
+-- Laws of numbers for the code: a place fits, and a table of running counts. Assumes nothing.
+use Prim.Native.Nat.{ℕ, zero, suc, _+_, _*_, _≤_, _<_}
+use mathlib.Core.Path.{_≡_, refl, sym, _∙_}
+use mathlib.Core.Logic.{⊎-elim}
+use mathlib.Core.Bool.{Bool, true, false}
+use mathlib.Core.List.{List}
+use native.Mathlib.Omega.{arith}
+use native.Mathlib.Nat.{mul-le-mul}
+use native.Mathlib.Numerals.{add-one}
+use mir.Val.{boolByte}
+use lib.ListN.{length, getD, set, length-set}
+use lib.Seq.{getD-set-same, getD-set-other}
+use Rattle.common.specs.Lists.{bit}
+use Rattle.common.proofs.Lists.{at-or-below}
+use Rattle.diagram.specs.Wires.{owners}
+use Rattle.placement.proofs.Count.{length-owners}
+
+-- the product of two numbers of 16 bits
+pub product : (a b : ℕ) → a < 65536 → b < 65536 → a * b ≤ 4294836225
+product a b h k =
+    let p : a ≤ 65535 = omega arith in
+    let q : b ≤ 65535 = omega arith in
+    mul-le-mul p q
+
+-- a truth value as a number
+pub byte-bit : (b : Bool) → boolByte b ≡ bit b
+unfolding bit
+byte-bit true = refl
+byte-bit false = refl
+
+pub byte-most : (b : Bool) → boolByte b ≤ 1
+byte-most true = omega arith
+byte-most false = omega arith
+
+-- a table whose entry at each id below this one is how many ids before have a wire, and that count so far
+pub record Running (has : ℕ → Bool) (id count : ℕ) (table : List ℕ) : Type 0 where
+  pub counted : count ≡ length (owners has id)
+  pub most : count ≤ id
+  pub filled : (i : ℕ) → i < id → getD table i 0 ≡ length (owners has i)
+
+pub running-none : (has : ℕ → Bool) (table : List ℕ) → Running has 0 0 table
+unfolding owners
+running-none has table = record { counted = refl; most = omega arith; filled = λ i h. absurd (omega arith) }
+
+pub running-more :
+    (has : ℕ → Bool) (id count : ℕ) (table : List ℕ) (b : Bool)
+    → Running has id count table
+    → id < length table
+    → b ≡ has id
+    → Running has (id + 1) (count + boolByte b) (set table id count)
+running-more has id count table b r within e =
+    record {
+      counted = rw (add-one, length-owners has id, ← (r .counted), byte-bit b, e);
+      most = omega (arith, r .most, byte-most b);
+      filled = λ i h.
+          ⊎-elim
+          (λ (last : i ≡ id). rw last (getD-set-same table id count 0 within ∙ r .counted))
+          (λ (below : i < id). getD-set-other table id i count 0 (λ e. omega arith) ∙ r .filled i below)
+          (at-or-below i id (omega arith));
+    }

@@ -1,0 +1,18 @@
+-- `placement::stores::place_of` meets its contract: the place of a row and a column of 16 bits fits. Assumes nothing.
+use native.Mathlib.Omega.{arith}
+use borrow.Author.Needs.{needs}
+use Rattle.placement.proofs.Running.{product}
+use Rattle.placement.proofs.stores.place_of.Statement.{statement}
+use Rattle.placement.proofs.stores.place_of.Tie as tie
+
+mul-result : tie.Need-mul-result
+mul-result c = record { fits = omega (arith, product (c .args .row) (c .args .width) (omega arith) (omega arith)) }
+
+add-result : tie.Need-add-result
+add-result c = record { fits = omega (arith, product (c .args .row) (c .args .width) (omega arith) (omega arith)) }
+
+returns : tie.Need-returns
+returns c = search needs
+
+pub place-of-spec : {M : Type 1} → statement M
+place-of-spec = tie.close (tie.spec mul-result add-result returns)
