@@ -29,9 +29,10 @@ numberAt s i = getD s (2 * i) 0 + 256 * getD s (2 * i + 1) 0
 -- the record that bytes hold
 unfoldable pub recordFrom : List ℕ → Crossbar
 recordFrom s =
-    record
-    { rows = numberAt s 0
-    ; columns = numberAt s 1
-    ; switches = numberAt s 2
-    ; outputs = numberAt s 3
-    ; outs = tab maxOutputs (λ j. numberAt s (4 + j)) }
+    record {
+      rows = numberAt s 0;
+      columns = numberAt s 1;
+      switches = numberAt s 2;
+      outputs = numberAt s 3;
+      outs = tab maxOutputs (λ j. numberAt s (4 + j));
+    }

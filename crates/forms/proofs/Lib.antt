@@ -3,3 +3,5 @@ pub mod Pattern
 pub mod Reading
 pub mod Template
 pub mod Lines
+pub mod Parts
+pub mod Items

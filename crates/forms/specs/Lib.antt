@@ -3,3 +3,4 @@ pub mod Due
 pub mod Form
 pub mod Forms
 pub mod Pattern
+pub mod Filled

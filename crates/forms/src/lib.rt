@@ -1,4 +1,6 @@
 // The lines of a job and of a listing.
+pub mod write;
+
 use cells::Cell;
 use common::Refusal;
 use figures::Figure;

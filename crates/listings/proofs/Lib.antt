@@ -1,4 +1,6 @@
 pub mod Cells
+pub mod Text
 pub mod Printed
+pub mod Answers
 pub mod Loaded
 pub mod RoundTrip

@@ -1,0 +1,136 @@
+-- The text of a listing in parts, as print writes it: one cell or output more, a row more, and the lines as patterns.
+-- Assumes nothing.
+use Prim.Native.Nat.{ℕ, suc, _+_, _-_, _*_, _/_, _%_, _≤_, _<_}
+use mathlib.Core.Path.{_≡_, refl, sym, ap, _∙_}
+use mathlib.Core.List.{List, [], _∷_, _++_}
+use native.Mathlib.Omega.{arith}
+use native.Mathlib.Nat.{mul-le-mul-right}
+use native.Mathlib.Numerals.{add-one}
+use lib.ListN.{length, getD, take, drop, take-append-drop}
+use lib.Seq.{slice-empty, slice-cons, length-slice, length-take-le, take-take, drop-append-le}
+use Rattle.figures.specs.Bytes.{bytes}
+use Rattle.cells.specs.declared.Cell.{Cell}
+use Rattle.cells.specs.declared.Cell.the-variants.{Off, On, Yes, No}
+use Rattle.cells.specs.Code.{cellOf}
+use Rattle.forms.specs.Template.{word, figure, written, line}
+use Rattle.forms.specs.Forms.{crossbarForm, onForm, yesForm, noForm, outForm, endForm}
+use Rattle.forms.specs.Filled.{itemOf, uses, filled, filledLine}
+use Rattle.listings.specs.Listing.{cellLine, cellLines, outLines}
+use Rattle.listings.specs.Printing.{cellText, outText}
+use Rattle.listings.proofs.Cells.{cell-lines-append, place-row, place-column}
+
+-- a row below m rows lies among their cells
+pub row-inside : (r m n : ℕ) → r < m → r * n + n ≤ m * n
+row-inside r m n h = let k : r + 1 ≤ m = omega arith in omega (arith, mul-le-mul-right n k)
+
+-- no cells, and no outputs
+pub cell-text-none : (cells : List ℕ) (n p e : ℕ) → p ≡ e → cellText cells n p e ≡ []
+unfolding cellText cellLines
+cell-text-none cells n p e h = rw (h, slice-empty e cells)
+
+pub out-text-none : (outs : List ℕ) (j k : ℕ) → j ≡ k → outText outs j k ≡ []
+unfolding outText outLines
+out-text-none outs j k h = rw (h, slice-empty k outs)
+
+-- one cell more, at row r and column c
+pub cell-text-more :
+    (cells : List ℕ) (n r c : ℕ) (x : Cell)
+    → x ≡ cellOf (getD cells (r * n + c) 0)
+    → c < n
+    → r * n + n ≤ length cells
+    → cellText cells n (r * n + c) (r * n + n) ≡ cellLine r c x ++ cellText cells n (r * n + (c + 1)) (r * n + n)
+unfolding cellText cellLines
+cell-text-more cells n r c x d h l =
+    let p : ℕ = r * n + c in
+    let k : p < r * n + n = omega arith in
+    let q : suc p ≡ r * n + (c + 1) = omega arith in
+    ap (cellLines n p) (slice-cons p (r * n + n) cells 0 k l)
+    ∙ rw (place-row r c n h, place-column r c n h, d)
+    (ap (λ (m : ℕ). cellLine r c (cellOf (getD cells p 0)) ++ cellText cells n m (r * n + n)) q)
+
+-- a place at which nothing is passed yet
+pub cell-text-from : (cells : List ℕ) (n p q e : ℕ) → p ≡ q → cellText cells n p e ≡ cellText cells n q e
+cell-text-from cells n p q e h = ap (λ (m : ℕ). cellText cells n m e) h
+
+-- one output more
+pub out-text-more :
+    (outs : List ℕ) (j k : ℕ)
+    → j < k
+    → k ≤ length outs
+    → outText outs j k ≡ line outForm (j ∷ getD outs j 0 ∷ []) ++ outText outs (j + 1) k
+unfolding outText outLines
+out-text-more outs j k h l = rw (slice-cons j k outs 0 h l, add-one j)
+
+-- the cells up to place m, and those from there on
+slice-split :
+    (l : List ℕ) (p m e : ℕ)
+    → p ≤ m
+    → m ≤ e
+    → m ≤ length l
+    → drop p (take e l) ≡ drop p (take m l) ++ drop m (take e l)
+slice-split l p m e h k b =
+    let within : p ≤ length (take m l) = rw length-take-le h in
+    let whole : take e l ≡ take m l ++ drop m (take e l) = sym (rw take-take at (take-append-drop m (take e l))) in
+    ap (drop p) whole ∙ drop-append-le p (take m l) (drop m (take e l)) within
+
+pub cell-text-split :
+    (cells : List ℕ) (n p m e : ℕ)
+    → p ≤ m
+    → m ≤ e
+    → m ≤ length cells
+    → cellText cells n p e ≡ cellText cells n p m ++ cellText cells n m e
+unfolding cellText
+cell-text-split cells n p m e h k b =
+    let q : p + length (drop p (take m cells)) ≡ m = rw length-slice (omega arith) in
+    ap (cellLines n p) (slice-split cells p m e h k b)
+    ∙ cell-lines-append n p (drop p (take m cells)) (drop m (take e cells))
+    ∙ rw q
+
+-- a row more, of m rows
+pub cell-text-row :
+    (cells : List ℕ) (n r m : ℕ)
+    → r < m
+    → m * n ≤ length cells
+    → cellText cells n (r * n) (m * n) ≡ cellText cells n (r * n) (r * n + n) ++ cellText cells n ((r + 1) * n) (m * n)
+cell-text-row cells n r m h l =
+    let e : r * n + n ≡ (r + 1) * n = omega arith in
+    let k : r * n + n ≤ m * n = row-inside r m n h in
+    cell-text-split cells n (r * n) (r * n + n) (m * n) (omega arith) k (omega arith)
+    ∙ ap (λ (w : List ℕ). cellText cells n (r * n) (r * n + n) ++ w) (cell-text-from cells n (r * n + n) ((r + 1) * n) (m * n) e)
+
+-- all of them
+pub cell-text-all : (cells : List ℕ) (n e : ℕ) → cellText cells n 0 e ≡ cellLines n 0 (take e cells)
+unfolding cellText
+cell-text-all cells n e = refl
+
+pub out-text-all : (outs : List ℕ) (k : ℕ) → outText outs 0 k ≡ outLines 0 (take k outs)
+unfolding outText
+out-text-all outs k = refl
+
+-- the lines as patterns, with their values and zeros past them
+module _ (r c : ℕ) where
+  pub on-pattern : cellLine r c On ≡ filledLine (bytes "(cell # # (on))") (r ∷ c ∷ 0 ∷ 0 ∷ 0 ∷ [])
+  unfolding cellLine line written onForm bytes filledLine filled itemOf uses
+  on-pattern = refl
+
+  pub yes-pattern : (x : ℕ) → cellLine r c (Yes x) ≡ filledLine (bytes "(cell # # (yes #))") (r ∷ c ∷ x ∷ 0 ∷ 0 ∷ [])
+  unfolding cellLine line written yesForm bytes filledLine filled itemOf uses
+  yes-pattern x = refl
+
+  pub no-pattern : (x : ℕ) → cellLine r c (No x) ≡ filledLine (bytes "(cell # # (no #))") (r ∷ c ∷ x ∷ 0 ∷ 0 ∷ [])
+  unfolding cellLine line written noForm bytes filledLine filled itemOf uses
+  no-pattern x = refl
+
+pub out-pattern : (j r : ℕ) → line outForm (j ∷ r ∷ []) ≡ filledLine (bytes "(out # #)") (j ∷ r ∷ 0 ∷ 0 ∷ 0 ∷ [])
+unfolding line written outForm bytes filledLine filled itemOf uses
+out-pattern j r = refl
+
+pub crossbar-pattern :
+    (r c v k : ℕ)
+    → line crossbarForm (r ∷ c ∷ v ∷ k ∷ []) ≡ filledLine (bytes "(crossbar # # # #)") (r ∷ c ∷ v ∷ k ∷ 0 ∷ [])
+unfolding line written crossbarForm bytes filledLine filled itemOf uses
+crossbar-pattern r c v k = refl
+
+pub end-pattern : line endForm [] ≡ filledLine (bytes "(end)") (0 ∷ 0 ∷ 0 ∷ 0 ∷ 0 ∷ [])
+unfolding line written endForm bytes filledLine filled itemOf uses
+end-pattern = refl

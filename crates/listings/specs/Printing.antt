@@ -1,0 +1,46 @@
+-- Print's answer as the call hands it over, and the text of a part of the cells and of the outputs.
+use Prim.Native.Nat.{ℕ, _+_, _*_, _≤_, _<_}
+use mathlib.Core.Path.{_≡_}
+use mathlib.Core.List.{List}
+use lib.ListN.{length, take, drop}
+use Rattle.common.specs.Outcome.{Outcome, refusalOf, valueOf, bufferOf}
+use Rattle.cells.specs.declared.Crossbar.{Crossbar}
+use Rattle.cells.specs.Record.{size}
+use Rattle.listings.specs.declared.printing.Printed.{Printed}
+use Rattle.listings.specs.Listing.{cellLines, outLines}
+
+-- the refusal, and the text's length
+unfoldable pub printedOf : Outcome (List ℕ) → Printed
+printedOf o = record { refusal = refusalOf o; length = valueOf 0 length o }
+
+-- the answer for a text of n bytes, and for a refusal with line 0
+abbrev pub textAnswer : ℕ → Printed
+textAnswer n = record { refusal = record { number = 0; line = 0 }; length = n }
+
+abbrev pub refusedAnswer : ℕ → Printed
+refusedAnswer k = record { refusal = record { number = k; line = 0 }; length = 0 }
+
+-- what print hands over for an outcome: the answer, and every byte of the output buffer of that many bytes
+pub record Answered (o : Outcome (List ℕ)) (room : ℕ) (r : Printed) (out : List ℕ) : Type 0 where
+  pub answer : r ≡ printedOf o
+  pub buffer : out ≡ bufferOf room (λ s. s) o
+
+-- the lines of the cells from place p up to, not including, place e, of n columns
+unfoldable pub cellText : List ℕ → ℕ → ℕ → ℕ → List ℕ
+cellText cells n p e = cellLines n p (drop p (take e cells))
+
+-- the lines of the outputs from output j up to, not including, output k
+unfoldable pub outText : List ℕ → ℕ → ℕ → List ℕ
+outText outs j k = outLines j (drop j (take k outs))
+
+-- a row of cells that lies in the slice
+pub record RowIn (cells : List ℕ) (r n : ℕ) : Type 0 where
+  pub row-small : r < 65536
+  pub columns-small : n < 65536
+  pub inside : r * n + n ≤ length cells
+
+-- m rows of cells that lie in the slice
+pub record RowsIn (cells : List ℕ) (m n : ℕ) : Type 0 where
+  pub rows-small : m < 65536
+  pub columns-small : n < 65536
+  pub inside : m * n ≤ length cells
