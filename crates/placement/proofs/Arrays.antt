@@ -1,19 +1,18 @@
 -- From a diagram held in flat arrays: its on cells and edges fit the buffer, stored into zeros they are its cells, and the record from
 -- the tables is its record. Assumes nothing.
-use Prim.Native.Nat.{ℕ, zero, suc, _+_, _-_, _*_, _≤_, _<_}
+use Prim.Native.Nat.{ℕ, _+_, _-_, _*_, _≤_, _<_}
 use mathlib.Core.Path.{_≡_, refl, sym, ap, _∙_}
-use mathlib.Core.Logic.{⊎-elim}
 use mathlib.Core.Bool.{Bool, true, false, not}
-use mathlib.Core.List.{List, [], _∷_, map}
+use mathlib.Core.List.{List}
 use native.Mathlib.Omega.{arith}
 use lib.ListN.{length, getD, take}
 use lib.Seq.{length-take-le, getD-take}
 use lib.Dec.{eqb}
-use borrow.Author.Tests.{eqb-true, eq-eqb, eqb-false, ne-eqb}
-use Rattle.common.specs.Limits.{maxRows, maxSwitches, maxNodes, maxOutputs}
+use borrow.Author.Tests.{eqb-true, eq-eqb, ne-eqb}
+use Rattle.common.specs.Limits.{maxRows, maxNodes, maxOutputs}
 use Rattle.common.specs.Lists.{zeros, padded}
 use Rattle.common.proofs.Lists.{true-or-false, length-tab}
-use Rattle.diagram.specs.Diagram.{Diagram, idCount, switchAt, lowAt, highAt, labelAt}
+use Rattle.diagram.specs.Diagram.{Diagram, idCount, switchAt, labelAt}
 use Rattle.diagram.specs.Stored.{stored, storedNode, fieldAt}
 use Rattle.diagram.specs.Wires.{rowOwners, rowCount, columnCount}
 use Rattle.diagram.proofs.Facts.{Facts, Sizes}

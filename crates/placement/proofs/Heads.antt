@@ -1,12 +1,12 @@
 -- The record from the tables: one output more, all of them, and that it is the record of the placement. Assumes nothing.
-use Prim.Native.Nat.{ℕ, zero, suc, _+_, _-_, _≤_, _<_}
-use mathlib.Core.Path.{_≡_, refl, sym, ap, _∙_}
+use Prim.Native.Nat.{ℕ, suc, _+_, _-_, _≤_, _<_}
+use mathlib.Core.Path.{_≡_, refl, sym, _∙_}
 use mathlib.Core.Logic.{⊎-elim}
 use mathlib.Core.Bool.{Bool, true, false}
 use mathlib.Core.List.{List, [], _∷_, _++_, map, map-append}
 use native.Mathlib.Omega.{arith}
 use native.Mathlib.Numerals.{add-one}
-use lib.ListN.{length, getD, take, set, replicate, length-append, length-map, length-take}
+use lib.ListN.{length, getD, take, set, length-append, length-map}
 use lib.Seq.{take-suc, set-append-seam, append-snoc, length-take-le}
 use lib.Dec.{eqb}
 use mir.Val.{boolByte}

@@ -1,9 +1,7 @@
 -- Rows and columns go by labels: a diagram held in flat arrays has those of the diagram of its labels alone. Assumes nothing.
 use Prim.Native.Nat.{ℕ, _+_}
-use mathlib.Core.Path.{_≡_, refl, sym, ap, _∙_, fun-ext}
-use mathlib.Core.Bool.{Bool}
+use mathlib.Core.Path.{_≡_, sym, ap, _∙_, fun-ext}
 use mathlib.Core.List.{List, []}
-use lib.ListN.{length}
 use Rattle.common.proofs.Lists.{length-tab}
 use Rattle.diagram.specs.Diagram.{idCount, labelAt}
 use Rattle.diagram.specs.Stored.{stored, storedNode}

@@ -2,19 +2,17 @@
 -- cells of the diagram, and each has its place in the buffer. Assumes nothing.
 use Prim.Native.Nat.{ℕ, zero, suc, _+_, _-_, _*_, _/_, _%_, _≤_, _<_}
 use mathlib.Core.Path.{_≡_, refl, sym, ap, _∙_}
-use mathlib.Core.Logic.{_⊎_, inl, inr, ⊎-elim}
-use mathlib.Core.Bool.{Bool, true, false, not, _&&_}
-use mathlib.Core.List.{List, _++_}
+use mathlib.Core.Logic.{⊎-elim}
+use mathlib.Core.Bool.{Bool, true, false, _&&_}
+use mathlib.Core.List.{List}
 use native.Mathlib.Omega.{arith}
 use native.Mathlib.Nat.{mul-le-mul-right, div-add-mod', div-lt-iff-lt-mul, mod-lt}
 use lib.ListN.{length, getD}
 use lib.Seq.{getD-append-add}
-use lib.Dec.{eqb}
-use borrow.Author.Tests.{eqb-true, eq-eqb, eqb-false, ne-eqb}
 use Rattle.common.specs.Lists.{zeros, padded}
-use Rattle.common.proofs.Lists.{by-test, true-or-false, below-or-not, length-grid, length-padded, getD-padded}
+use Rattle.common.proofs.Lists.{by-test, below-or-not, length-grid, length-padded, getD-padded}
 use Rattle.cells.specs.Code.{codeOf}
-use Rattle.diagram.specs.Diagram.{Diagram, idCount, switchAt, lowAt, highAt, labelAt}
+use Rattle.diagram.specs.Diagram.{Diagram, idCount, switchAt, labelAt}
 use Rattle.diagram.specs.Wires.{hasRow, hasColumn, rowOf, columnOf, rowCount, columnCount}
 use Rattle.diagram.proofs.Facts.{Facts}
 use Rattle.placement.specs.Placement.{codeAt, cells}

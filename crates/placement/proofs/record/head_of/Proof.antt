@@ -1,5 +1,5 @@
 -- `placement::record::head_of` meets its contract: before each output the rows of those before it are in the table. Assumes nothing.
-use Prim.Native.Nat.{ℕ, _+_, _-_, _≤_, _<_}
+use Prim.Native.Nat.{_-_, _≤_, _<_}
 use mathlib.Core.Path.{_≡_, refl, _∙_}
 use mathlib.Core.List.{map}
 use native.Mathlib.Omega.{arith}

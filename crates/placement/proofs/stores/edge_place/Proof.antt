@@ -1,10 +1,9 @@
 -- `placement::stores::edge_place` meets its contract: the tests of the two labels pick the row and the column. Assumes nothing.
-use mathlib.Core.Path.{_∙_, sym}
+use mathlib.Core.Path.{_∙_}
 use mathlib.Core.Logic.{⊎-elim, inl, inr}
 use mathlib.Core.List.{[]}
 use native.Mathlib.Omega.{arith}
 use Rattle.common.specs.Limits.{maxNodes}
-use Rattle.diagram.specs.Wires.{hasRow, hasColumn}
 use Rattle.placement.specs.Stores.{labels}
 use Rattle.placement.proofs.Edges.{edge-parent, edge-child, and-fails, row-test, column-test}
 use borrow.Author.Needs.{needs}

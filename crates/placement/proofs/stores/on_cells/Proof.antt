@@ -1,8 +1,7 @@
 -- `placement::stores::on_cells` meets its contract: before each id the on cells of the ids below it are stored. Assumes nothing.
-use Prim.Native.Nat.{ℕ, _+_, _-_, _≤_}
-use mathlib.Core.Path.{_≡_, refl, sym, ap, _∙_}
+use Prim.Native.Nat.{_+_, _-_, _≤_}
+use mathlib.Core.Path.{_≡_, refl, ap, _∙_}
 use native.Mathlib.Omega.{arith}
-use native.Mathlib.Numerals.{add-one}
 use lib.ListN.{length}
 use Rattle.common.specs.Limits.{maxNodes}
 use Rattle.placement.specs.Stores.{labels, puts, withOn, OnFits}
