@@ -25,7 +25,7 @@ no-record = record { rows = 0; columns = 0; switches = 0; outputs = 0; outs = ze
 unfoldable pub inRange : ℕ → ℕ → ℕ → ℕ → Bool
 inRange r c v k = leb 1 r && leb r maxRows && leb c maxColumns && leb v maxSwitches && leb 1 k && leb k maxOutputs
 
--- a record and cells that ground 12 does not touch: the sizes in range, the slice not shorter than R·C and its bytes past it 0, no
+-- a record and cells that ground 12 does not refuse: the sizes in range, the slice not shorter than R·C and its bytes past it 0, no
 -- code above 1 + 2·V, each output row below R and each unused one 0
 unfoldable pub sound : Crossbar → List ℕ → Bool
 sound x cells =

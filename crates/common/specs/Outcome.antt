@@ -1,5 +1,5 @@
--- How a call or a reading ends. Document 01, "Grounds for sending a job back": "A refusal is its number and a line, zeros in the
--- whole output buffer, and 0 as value, rounds or field of a record."
+-- How a call or a reading ends. Document 01, "Grounds for sending a job back": "A refusal is its number and a line .., zeros in
+-- the whole output buffer, and 0 as value, rounds or field of a record."
 use Prim.Native.Nat.{ℕ, zero, suc}
 use mathlib.Core.Bool.{Bool, true, false}
 use mathlib.Core.List.{List, [], _∷_}
@@ -48,8 +48,8 @@ refusalOf o = record { number = numberOf o; line = lineOf o }
 
 -- the value of an outcome, and what stands in its place after a refusal
 unfoldable pub valueOf : {A B : Type 0} → B → (A → B) → Outcome A → B
-valueOf none f (done a) = f a
-valueOf none f (refused k l) = none
+valueOf otherwise f (done a) = f a
+valueOf otherwise f (refused k l) = otherwise
 
 -- an output buffer of n bytes: the answer's bytes and zeros past them, or zeros in the whole of it
 unfoldable pub bufferOf : {A : Type 0} → ℕ → (A → List ℕ) → Outcome A → List ℕ

@@ -1,5 +1,5 @@
--- Document 01, "What an output reads": "A chain steps from wire to wire, each step between a row and a column whose cell conducts. It
--- may be empty, so row 0 is always lit."
+-- Document 01, "What an output reads": "A chain steps from wire to wire, each step between a row and a column whose cell conducts .."
+-- "It may be empty, so row 0 is always lit."
 use Prim.Native.Nat.{ℕ, _<_, _+_}
 use mathlib.Core.Path.{_≡_}
 use mathlib.Core.Bool.{Bool, true}

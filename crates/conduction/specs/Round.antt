@@ -1,5 +1,5 @@
--- Document 01, "Conduction": the rounds. R and C are the numbers of rows and columns, m and n here, and joined r c says whether the cell at
--- row r and column c conducts. A set of lit wires is one byte a wire, rows then columns, 1 lit, 0 dark.
+-- Document 01, "Conduction": the rounds. R and C, the numbers of rows and columns, are m and n here, and joined r c says whether the
+-- cell at row r and column c conducts. A set of lit wires is one byte a wire, rows then columns, 1 lit, 0 dark.
 use Prim.Native.Nat.{ℕ, zero, suc, _+_, _-_}
 use mathlib.Core.Bool.{Bool, true, false, _&&_, _||_}
 use mathlib.Core.List.{List, _++_}
@@ -30,7 +30,7 @@ rounds m n joined (suc t) = round m n joined (rounds m n joined t)
 unfoldable pub atRest : ℕ → ℕ → (ℕ → ℕ → Bool) → ℕ → Bool
 atRest m n joined t = same (rounds m n joined t) (rounds m n joined (suc t))
 
--- the least such t from t on, looked for in k + 1 places at the most
+-- the least such t from t on, among k + 1 candidates; the last is taken without a test, since ground 15 makes that test
 unfoldable pub firstRest : ℕ → ℕ → (ℕ → ℕ → Bool) → ℕ → ℕ → ℕ
 firstRest m n joined zero t = t
 firstRest m n joined (suc k) t = elim (atRest m n joined t) [ true ↦ t | false ↦ firstRest m n joined k (suc t) ]

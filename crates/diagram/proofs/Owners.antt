@@ -43,12 +43,12 @@ owners-most has (suc i) =
 module _ (v one n : ℕ) (xs ls hs ts outs : List ℕ) where
   pub rows-stored :
       length (owners (hasWire 1 (stored v one n xs ls hs ts outs)) (n + 2)) ≡ length (rowOwners (stored v one n xs ls hs ts outs))
-  unfolding rowOwners hasRow hasWire
+  unfolding rowOwners hasRow
   rows-stored = rw (idCount-stored v one n xs ls hs ts outs)
 
   pub columns-stored :
       length (owners (hasWire 2 (stored v one n xs ls hs ts outs)) (n + 2)) ≡ columnCount (stored v one n xs ls hs ts outs)
-  unfolding columnCount columnOwners hasColumn hasWire
+  unfolding columnCount columnOwners hasColumn
   columns-stored = rw (idCount-stored v one n xs ls hs ts outs)
 
   pub rows-most : length (rowOwners (stored v one n xs ls hs ts outs)) ≤ n + 2

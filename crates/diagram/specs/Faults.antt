@@ -1,5 +1,5 @@
--- Document 01, "Grounds for sending a job back", 2 to 9, on one line each: the lowest number that the line meets, 0 where it meets
--- none.
+-- Document 01, "Grounds for sending a job back", 2 to 9, for each kind of line: the lowest number that the line meets, 0 where it
+-- meets none.
 use Prim.Native.Nat.{ℕ, _+_}
 use mathlib.Core.Bool.{Bool, not, _&&_, _||_}
 use mathlib.Core.List.{List, [], _∷_}

@@ -17,7 +17,8 @@ unfoldable pub steps : Diagram → List ℕ → ℕ → ℕ → ℕ
 steps d setting zero i = i
 steps d setting (suc n) i = steps d setting n (step d setting i)
 
--- the terminal at which the walk from an id ends: each step falls, so N steps come to a terminal from any id up to N + 1
+-- the terminal at which the walk from an id ends: in an accepted job each step lowers the id, so N steps come to a terminal from any id
+-- up to N + 1
 unfoldable pub walkEnd : Diagram → List ℕ → ℕ → ℕ
 walkEnd d setting i = steps d setting (length (d .nodes)) i
 

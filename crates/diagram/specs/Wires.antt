@@ -8,16 +8,16 @@ use Rattle.common.specs.Limits.{maxRows, maxColumns}
 use Rattle.common.specs.Lists.{bit, any-of}
 use Rattle.diagram.specs.Diagram.{Diagram, idCount, labelAt}
 
--- "Labels T: `h` a row, `v` a column, `b` both." "Terminal 0 has no wire": it has no label.
+-- whether an id has a wire of one kind, 1 for rows and 2 for columns: its label is that or both. "Labels T: `h` a row, `v` a column, `b`
+-- both", which are 1, 2 and 3. "Terminal 0 has no wire": it has no label.
+abbrev pub hasWire : ℕ → Diagram → ℕ → Bool
+hasWire kind d i = eqb (labelAt d i) kind || eqb (labelAt d i) 3
+
 unfoldable pub hasRow : Diagram → ℕ → Bool
-hasRow d i = eqb (labelAt d i) 1 || eqb (labelAt d i) 3
+hasRow d i = hasWire 1 d i
 
 unfoldable pub hasColumn : Diagram → ℕ → Bool
-hasColumn d i = eqb (labelAt d i) 2 || eqb (labelAt d i) 3
-
--- both at once: the label `h`, 1, for rows, and `v`, 2, for columns
-unfoldable pub hasWire : ℕ → Diagram → ℕ → Bool
-hasWire kind d i = eqb (labelAt d i) kind || eqb (labelAt d i) 3
+hasColumn d i = hasWire 2 d i
 
 -- the ids below n of which has holds, in rising order
 unfoldable pub owners : (ℕ → Bool) → ℕ → List ℕ
@@ -32,7 +32,7 @@ rowOwners d = owners (hasRow d) (idCount d)
 unfoldable pub columnOwners : Diagram → List ℕ
 columnOwners d = owners (hasColumn d) (idCount d)
 
--- so the wire of an id has as its number how many ids before it have one
+-- so the number of an id's wire is how many lower ids have one
 unfoldable pub rowOf : Diagram → ℕ → ℕ
 rowOf d i = length (owners (hasRow d) i)
 

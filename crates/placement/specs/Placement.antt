@@ -24,7 +24,8 @@ edge d parent child =
 -- the cell where the row of p and the column of q meet. "A `b` label has an on cell where its own row and column meet." An edge
 -- "stands at the parent's row and child's column if both exist, otherwise at the child's row and parent's column": children have
 -- lower ids, so where q is below p this place is that of the edge from p to q, and where q is above p it is that of the edge from q
--- to p, unless q has a row and p a column. "Edges to terminal 0 have no cell", and 0 here is the last row's, which no id has.
+-- to p, unless q has a row and p a column. "Terminal 0 has no wire, and edges to it have
+-- no cell": p = 0 stands for the last row, which belongs to no id.
 unfoldable pub meeting : Diagram → ℕ → ℕ → Cell
 meeting d p q =
     elim (eqb p 0) [

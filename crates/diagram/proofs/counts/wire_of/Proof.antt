@@ -11,7 +11,7 @@ label-at-requires : tie.Need-label-at-requires
 label-at-requires c κs = search needs
 
 returns : tie.Need-returns
-unfolding hasWire bit
+unfolding bit
 returns c =
     λ v xs ls hs outs.
     let at-label = c .before in
@@ -20,7 +20,7 @@ returns c =
     rw (sym (at-label .label-at .ensures v xs ls hs outs), eq-eqb t kind (c .if1 .taken))
 
 returns-2 : tie.Need-returns-2
-unfolding hasWire bit
+unfolding bit
 returns-2 c =
     λ v xs ls hs outs.
     let at-label = c .before .before in
@@ -29,7 +29,7 @@ returns-2 c =
     rw (sym (at-label .label-at .ensures v xs ls hs outs), ne-eqb t kind (c .before .if1 .left), eq-eqb t 3 (c .if2 .taken))
 
 returns-3 : tie.Need-returns-3
-unfolding hasWire bit
+unfolding bit
 returns-3 c =
     λ v xs ls hs outs.
     let at-label = c .before .before in
