@@ -71,11 +71,11 @@ read-outs (suc k) d n ls t v h =
     }
 
 -- a label of a line is 1, 2 or 3
-node-label : (n : ℕ) (ls : Lines) (o : Taken) → due nodeForm n ls ≡ done o → (1 ≤ (nodeOf (o .vals)) .t) × ((nodeOf (o .vals)) .t ≤ 3)
+pub node-label : (n : ℕ) (ls : Lines) (o : Taken) → due nodeForm n ls ≡ done o → (1 ≤ (nodeOf (o .vals)) .t) × ((nodeOf (o .vals)) .t ≤ 3)
 unfolding nodeOf
 node-label n ls o h = let v = node-values (o .vals) (due-fits nodeForm n ls o h) in (v .5, v .6)
 
-one-label : (n : ℕ) (ls : Lines) (o : Taken) → due oneForm n ls ≡ done o → (1 ≤ getD (o .vals) 0 0) × (getD (o .vals) 0 0 ≤ 3)
+pub one-label : (n : ℕ) (ls : Lines) (o : Taken) → due oneForm n ls ≡ done o → (1 ≤ getD (o .vals) 0 0) × (getD (o .vals) 0 0 ≤ 3)
 one-label n ls o h = let v = one-values (o .vals) (due-fits oneForm n ls o h) in (v .1, v .2)
 
 read-nodes :
@@ -127,7 +127,7 @@ record Read (d : Diagram) : Type 0 where
   outs-most : length (d .outs) ≤ maxOutputs
 
 -- ground 2 taken apart
-head-ranges :
+pub head-ranges :
     (v n k : ℕ) → headFault v n k ≡ 0 → (v ≤ maxSwitches) × (n ≤ maxNodes) × (1 ≤ k) × (k ≤ maxOutputs)
 unfolding headFault
 head-ranges v n k h =

@@ -1,2 +1,4 @@
 pub mod Reading
 pub mod Job
+pub mod Answer
+pub mod Steps

@@ -1,6 +1,11 @@
-pub mod Cells
-pub mod Text
-pub mod Printed
 pub mod Answers
+pub mod Cells
+pub mod Handing
+pub mod Kept
 pub mod Loaded
+pub mod Printed
+pub mod Reader
 pub mod RoundTrip
+pub mod Stands
+pub mod Steps
+pub mod Text

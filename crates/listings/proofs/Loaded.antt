@@ -60,7 +60,7 @@ end-told x n ls y h =
     (k .0 ∙ right, cc)
 
 -- an output without a fault is in turn and on a row of the crossbar
-stand-facts : (x : Listed) (j r : ℕ) → standFault x j r ≡ 0 → (j ≡ length (x .outs)) × (ltb r (x .rows) ≡ true)
+pub stand-facts : (x : Listed) (j r : ℕ) → standFault x j r ≡ 0 → (j ≡ length (x .outs)) × (ltb r (x .rows) ≡ true)
 unfolding standFault
 stand-facts x j r h =
     let first = not-met 2 (not (eqb j (length (x .outs)))) _ h in
@@ -103,13 +103,13 @@ outs-told (suc k) x n ls y h =
     }
 
 -- a cell without a fault is in the crossbar, after those named, and of a switch of the crossbar
-record CellFacts (x : Listed) (p : Placed) : Type 0 where
-  row-in : p .row < x .rows
-  column-in : p .column < x .columns
-  later : length (x .codes) ≤ p .row * x .columns + p .column
-  switch-in : switchBelow (x .switches) (p .cell) ≡ true
+pub record CellFacts (x : Listed) (p : Placed) : Type 0 where
+  pub row-in : p .row < x .rows
+  pub column-in : p .column < x .columns
+  pub later : length (x .codes) ≤ p .row * x .columns + p .column
+  pub switch-in : switchBelow (x .switches) (p .cell) ≡ true
 
-cell-facts : (x : Listed) (p : Placed) → cellFault x p ≡ 0 → CellFacts x p
+pub cell-facts : (x : Listed) (p : Placed) → cellFault x p ≡ 0 → CellFacts x p
 unfolding cellFault
 cell-facts x p h =
     let a = ltb (p .row) (x .rows) in
@@ -157,7 +157,7 @@ codes-with :
 unfolding withCell padded
 codes-with x p = append-assoc (x .codes) (zeros (p .row * x .columns + p .column - length (x .codes))) (codeOf (p .cell) ∷ [])
 
-length-with :
+pub length-with :
     (x : Listed) (p : Placed)
     → length (x .codes) ≤ p .row * x .columns + p .column
     → length (withCell x p .codes) ≡ suc (p .row * x .columns + p .column)
@@ -245,7 +245,7 @@ no-cell-told x s y h d =
     }
 
 -- the codes up to a cell in the crossbar are not more than its cells
-cell-room : (x : Listed) (p : Placed) → CellFacts x p → length (withCell x p .codes) ≤ withCell x p .rows * withCell x p .columns
+pub cell-room : (x : Listed) (p : Placed) → CellFacts x p → length (withCell x p .codes) ≤ withCell x p .rows * withCell x p .columns
 cell-room x p f =
     let most : suc (p .row * x .columns + p .column) ≤ x .rows * x .columns =
     omega (arith, f .column-in, mul-le-mul-right (x .columns) (f .row-in)) in

@@ -1,3 +1,4 @@
 pub mod Listing
-pub mod Loading
 pub mod Printing
+pub mod Loading
+pub mod Loader

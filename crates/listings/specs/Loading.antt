@@ -131,11 +131,17 @@ recordOf x =
 unfoldable pub cellsOf : Listed → List ℕ
 cellsOf x = padded (x .rows * x .columns) (x .codes)
 
--- listing text and the length of the output buffer in. 1, 2, 3 and 12 by line, then 10, then 14: "The output buffer is shorter than
--- the R·C cells", line 0.
-unfoldable pub load : List ℕ → ℕ → Outcome Whole
-load s room =
-    loadFrom 1 (linesOf s)
-    then λ x.
+-- 14: "The output buffer is shorter than the R·C cells", line 0; room is the buffer's length
+abbrev pub fitted : ℕ → Listed → Outcome Whole
+fitted room x =
     unless (lowest ((14 when ltb room (size (recordOf x))) ∷ [])) 0
     (done (record { head = recordOf x; codes = cellsOf x }))
+
+-- a listing whose first line is line n of the text that holds it, and the length of the output buffer in: 1, 2, 3 and 12 by line, then
+-- 10, then 14
+abbrev pub loadAt : ℕ → Lines → ℕ → Outcome Whole
+loadAt n ls room = loadFrom n ls then λ x. fitted room x
+
+-- listing text and the length of the output buffer in
+unfoldable pub load : List ℕ → ℕ → Outcome Whole
+load s room = loadAt 1 (linesOf s) room

@@ -1,5 +1,3 @@
 // Listings: a crossbar's text, printed and loaded.
+pub mod loading;
 pub mod printing;
-
-pub use printing::Printed;
-pub use printing::print;

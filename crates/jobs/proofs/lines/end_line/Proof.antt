@@ -1,0 +1,39 @@
+-- `jobs::lines::end_line` meets its contract. Assumes nothing.
+use Rattle.forms.proofs.Cases.{not-end}
+use Rattle.jobs.proofs.Due.{end-none, end-stops, end-goes}
+use borrow.Author.Needs.{needs}
+use Rattle.jobs.proofs.lines.end_line.Statement.{statement}
+use Rattle.jobs.proofs.lines.end_line.Tie as tie
+use Rattle.jobs.proofs.lines.end_line.Reads as reads
+use Rattle.jobs.proofs.lines.end_line.Lts as lts
+use Rattle.forms.proofs.form_at.Reads as form-at-reads
+use Rattle.jobs.proofs.lines.next_line.Reads as next-line-reads
+
+form-at-requires : tie.Need-form-at-requires
+form-at-requires c κs = search needs
+
+enum-told : tie.Need-enum-told
+enum-told c = search needs
+
+returns : tie.Need-returns
+returns c =
+    end-none _ _ _ _ (c .before .form-at .ensures) (not-end _ (c .match .keys2))
+
+next-line-requires : tie.Need-next-line-requires
+next-line-requires c κs = search needs
+
+add-t8 : tie.Need-add-t8
+add-t8 c = search needs
+
+returns-2 : tie.Need-returns-2
+returns-2 c =
+    end-stops _ _ _ _ (c .before .before .before .before .form-at .ensures) (c .before .before .enum-told .given .1) _ (c .before .next-line .ensures) (c .if1 .taken)
+
+returns-3 : tie.Need-returns-3
+returns-3 c =
+    end-goes _ _ _ _ (c .before .before .before .before .form-at .ensures) (c .before .before .enum-told .given .1) _ (c .before .next-line .ensures) (c .if1 .left)
+
+pub end-line-spec : {M : Type 1} → statement M
+end-line-spec =
+    tie.close
+    (tie.spec form-at-requires enum-told returns next-line-requires add-t8 returns-2 returns-3)

@@ -1,0 +1,88 @@
+-- `jobs::lines::node_line` meets its contract. Assumes nothing.
+use mathlib.Core.List.{[]}
+use native.Mathlib.Omega.{arith}
+use Rattle.common.specs.Limits.{maxNodes}
+use denote.Ref.{now}
+use Rattle.diagram.specs.Diagram.{bare}
+use Rattle.forms.proofs.Cases.{not-node}
+use Rattle.jobs.proofs.Due.{node-none, node-most, node-stops, node-goes, node-small}
+use borrow.Author.Needs.{needs}
+use Rattle.jobs.proofs.lines.node_line.Statement.{statement}
+use Rattle.jobs.proofs.lines.node_line.Tie as tie
+use Rattle.jobs.proofs.lines.node_line.Reads as reads
+use Rattle.jobs.proofs.lines.node_line.Lts as lts
+use Rattle.diagram.proofs.grounds.node_fault.Reads as node-fault-reads
+use Rattle.forms.proofs.form_at.Reads as form-at-reads
+use Rattle.jobs.proofs.lines.next_line.Reads as next-line-reads
+use Rattle.jobs.proofs.lines.no_node.Reads as no-node-reads
+
+form-at-requires : tie.Need-form-at-requires
+form-at-requires c κs = search needs
+
+enum-known-f : tie.Need-enum-known-f
+enum-known-f c = search needs
+
+no-node-requires : tie.Need-no-node-requires
+no-node-requires c κs = search needs
+
+returns : tie.Need-returns
+returns c =
+    rw (c .no-node .ensures) (node-none _ _ _ _ _ (c .before .before .form-at .ensures) (not-node _ (c .before .match .keys2)))
+
+cast-t : tie.Need-cast-t
+cast-t c =
+    let a = c .before .before .before .before .before .before .args in
+    omega (arith, node-most (now (a .text)) (a .at) (a .line) (bare 0 0) _ (c .before .before .before .before .form-at .ensures) _ (c .before .before .f .given .1))
+
+node-fault-requires : tie.Need-node-fault-requires
+node-fault-requires c κs = search needs
+
+no-node-requires-2 : tie.Need-no-node-requires-2
+no-node-requires-2 c κs = search needs
+
+returns-2 : tie.Need-returns-2
+returns-2 c =
+    rw (c .no-node2 .ensures)
+    (node-stops _ _ _ _ _ (c .before .before .before .before .before .before .before .form-at .ensures) _ (c .before .before .before .before .before .f .given .1) _ (c .before .before .node-fault .ensures []) (c .before .if1 .taken))
+
+cast-t17 : tie.Need-cast-t17
+cast-t17 c =
+    let small = node-small _ _ _ _ _ _ _ _ _ _ _ (c .before .before .node-fault .ensures []) (c .before .if1 .left) in
+    omega (arith, small .0)
+
+cast-t18 : tie.Need-cast-t18
+unfolding maxNodes
+cast-t18 c =
+    let small = node-small _ _ _ _ _ _ _ _ _ _ _ (c .before .before .before .node-fault .ensures []) (c .before .before .if1 .left) in
+    omega (arith, small .1)
+
+cast-t19 : tie.Need-cast-t19
+unfolding maxNodes
+cast-t19 c =
+    let small = node-small _ _ _ _ _ _ _ _ _ _ _ (c .before .before .before .before .node-fault .ensures []) (c .before .before .before .if1 .left) in
+    omega (arith, small .2)
+
+next-line-requires : tie.Need-next-line-requires
+next-line-requires c κs = search needs
+
+returns-3 : tie.Need-returns-3
+returns-3 c =
+    node-goes _ _ _ _ _ (c .before .before .before .before .before .before .before .before .before .before .form-at .ensures) _ (c .before .before .before .before .before .before .before .before .f .given .1) _ (c .before .before .before .before .before .node-fault .ensures []) (c .before .before .before .before .if1 .left) _ (c .next-line .ensures)
+
+pub node-line-spec : {M : Type 1} → statement M
+node-line-spec =
+    tie.close
+    (tie.spec
+    form-at-requires
+    enum-known-f
+    no-node-requires
+    returns
+    cast-t
+    node-fault-requires
+    no-node-requires-2
+    returns-2
+    cast-t17
+    cast-t18
+    cast-t19
+    next-line-requires
+    returns-3)

@@ -1,0 +1,55 @@
+-- `jobs::lines::one_line` meets its contract. Assumes nothing.
+use native.Mathlib.Omega.{arith}
+use denote.Ref.{now}
+use Rattle.forms.proofs.Cases.{not-one}
+use Rattle.jobs.proofs.Due.{one-none, one-most, one-stops, one-goes}
+use borrow.Author.Needs.{needs}
+use Rattle.jobs.proofs.lines.one_line.Statement.{statement}
+use Rattle.jobs.proofs.lines.one_line.Tie as tie
+use Rattle.jobs.proofs.lines.one_line.Reads as reads
+use Rattle.jobs.proofs.lines.one_line.Lts as lts
+use Rattle.diagram.proofs.grounds.one_fault.Reads as one-fault-reads
+use Rattle.forms.proofs.form_at.Reads as form-at-reads
+use Rattle.jobs.proofs.lines.next_line.Reads as next-line-reads
+
+form-at-requires : tie.Need-form-at-requires
+form-at-requires c κs = search needs
+
+enum-known-t : tie.Need-enum-known-t
+enum-known-t c = search needs
+
+returns : tie.Need-returns
+returns c =
+    one-none _ _ _ (c .before .form-at .ensures) (not-one _ (c .match .keys2))
+
+cast-one : tie.Need-cast-one
+cast-one c =
+    let a = c .before .before .before .before .before .args in
+    omega (arith, one-most (now (a .text)) (a .at) _ (c .before .before .before .form-at .ensures) _ (c .before .t .given .1))
+
+one-fault-requires : tie.Need-one-fault-requires
+one-fault-requires c κs = search needs
+
+returns-2 : tie.Need-returns-2
+returns-2 c =
+    one-stops _ _ _ (c .before .before .before .before .before .form-at .ensures) _ (c .before .before .before .t .given .1) _ (c .before .one-fault .ensures) (c .if1 .taken)
+
+next-line-requires : tie.Need-next-line-requires
+next-line-requires c κs = search needs
+
+returns-3 : tie.Need-returns-3
+returns-3 c =
+    one-goes _ _ _ (c .before .before .before .before .before .before .form-at .ensures) _ (c .before .before .before .before .t .given .1) _ (c .before .before .one-fault .ensures) (c .before .if1 .left) _ (c .next-line .ensures)
+
+pub one-line-spec : {M : Type 1} → statement M
+one-line-spec =
+    tie.close
+    (tie.spec
+    form-at-requires
+    enum-known-t
+    returns
+    cast-one
+    one-fault-requires
+    returns-2
+    next-line-requires
+    returns-3)

@@ -1,0 +1,62 @@
+-- `jobs::lines::out_line` meets its contract. Assumes nothing.
+use mathlib.Core.List.{[]}
+use native.Mathlib.Omega.{arith}
+use lib.ListN.{length-replicate}
+use Rattle.common.specs.Limits.{maxNodes}
+use Rattle.common.specs.Lists.{zeros}
+use Rattle.forms.proofs.Cases.{not-out}
+use Rattle.jobs.proofs.Due.{out-none, out-stops, out-goes, out-small}
+use borrow.Author.Needs.{needs}
+use Rattle.jobs.proofs.lines.out_line.Statement.{statement}
+use Rattle.jobs.proofs.lines.out_line.Tie as tie
+use Rattle.jobs.proofs.lines.out_line.Reads as reads
+use Rattle.jobs.proofs.lines.out_line.Lts as lts
+use Rattle.diagram.proofs.grounds.out_fault.Reads as out-fault-reads
+use Rattle.forms.proofs.form_at.Reads as form-at-reads
+use Rattle.jobs.proofs.lines.next_line.Reads as next-line-reads
+
+form-at-requires : tie.Need-form-at-requires
+form-at-requires c κs = search needs
+
+enum-known-f : tie.Need-enum-known-f
+enum-known-f c = search needs
+
+returns : tie.Need-returns
+returns c =
+    λ v xs ls hs outs count. out-none _ _ _ _ _ (c .before .form-at .ensures) (not-out _ (c .match .keys2))
+
+out-fault-requires : tie.Need-out-fault-requires
+out-fault-requires c κs = search needs
+
+returns-2 : tie.Need-returns-2
+returns-2 c =
+    λ v xs ls hs outs count.
+    out-stops _ _ _ _ _ (c .before .before .before .before .before .form-at .ensures) _ (c .before .before .before .f .given .1) _ (c .before .out-fault .ensures v xs ls hs outs count) (c .if1 .taken)
+
+cast-t15 : tie.Need-cast-t15
+unfolding maxNodes
+cast-t15 c =
+    let k = c .before .before .before .before .before .before .before .before .args .k in
+    let fault = c .before .before .out-fault .ensures 0 [] [] [] (zeros k) (length-replicate k 0) in
+    omega (arith, out-small _ _ _ _ _ _ _ _ _ _ _ fault (c .before .if1 .left))
+
+next-line-requires : tie.Need-next-line-requires
+next-line-requires c κs = search needs
+
+returns-3 : tie.Need-returns-3
+returns-3 c =
+    λ v xs ls hs outs count.
+    out-goes _ _ _ _ _ (c .before .before .before .before .before .before .before .form-at .ensures) _ (c .before .before .before .before .before .f .given .1) _ (c .before .before .before .out-fault .ensures v xs ls hs outs count) (c .before .before .if1 .left) _ (c .next-line .ensures)
+
+pub out-line-spec : {M : Type 1} → statement M
+out-line-spec =
+    tie.close
+    (tie.spec
+    form-at-requires
+    enum-known-f
+    returns
+    out-fault-requires
+    returns-2
+    cast-t15
+    next-line-requires
+    returns-3)

@@ -1,0 +1,32 @@
+-- `jobs::reading::read_job` meets its contract: after a refusal the table is cleared. Assumes nothing.
+use Rattle.jobs.proofs.Whole.{refused-table, read-done}
+use borrow.Author.Needs.{needs}
+use Rattle.jobs.proofs.reading.read_job.Statement.{statement}
+use Rattle.jobs.proofs.reading.read_job.Tie as tie
+use Rattle.jobs.proofs.reading.read_job.Reads as reads
+use Rattle.jobs.proofs.reading.read_job.Lts as lts
+use Rattle.jobs.proofs.reading.clear_table.Reads as clear-table-reads
+use Rattle.jobs.proofs.reading.read_lines.Reads as read-lines-reads
+
+read-lines-requires : tie.Need-read-lines-requires
+read-lines-requires c κs = search needs
+
+clear-table-requires : tie.Need-clear-table-requires
+clear-table-requires c κs = search needs
+
+returns : tie.Need-returns
+returns c =
+    let read = c .before .before .before .before .before .before .before .before .read-lines .ensures in
+    let zeros = c .clear-table .ensures in (
+      read .answer,
+      refused-table _ _ _ _ _ _ (read .answer) (c .before .before .before .before .before .if1 .taken) (zeros .0) (zeros .1) (zeros .2) (zeros .3),
+    )
+
+returns-2 : tie.Need-returns-2
+returns-2 c =
+    let read = c .before .before .before .read-lines .ensures in
+    let found = read-done _ _ (read .answer) (c .if1 .left) in
+    (read .answer, read .held (found .0) (found .1))
+
+pub read-job-spec : {M : Type 1} → statement M
+read-job-spec = tie.close (tie.spec read-lines-requires clear-table-requires returns returns-2)

@@ -1,0 +1,26 @@
+-- `jobs::reading::read_opening` meets its contract. Assumes nothing.
+use Rattle.jobs.proofs.Turns.{opening-stops, opening-goes}
+use borrow.Author.Needs.{needs}
+use Rattle.jobs.proofs.reading.read_opening.Statement.{statement}
+use Rattle.jobs.proofs.reading.read_opening.Tie as tie
+use Rattle.jobs.proofs.reading.read_opening.Reads as reads
+use Rattle.jobs.proofs.reading.read_opening.Lts as lts
+use Rattle.jobs.proofs.lines.head_line.Reads as head-line-reads
+use Rattle.jobs.proofs.lines.one_line.Reads as one-line-reads
+
+head-line-requires : tie.Need-head-line-requires
+head-line-requires c κs = search needs
+
+returns : tie.Need-returns
+returns c =
+    opening-stops _ _ (c .before .before .before .head-line .ensures) (c .if1 .taken)
+
+one-line-requires : tie.Need-one-line-requires
+one-line-requires c κs = search needs
+
+returns-2 : tie.Need-returns-2
+returns-2 c =
+    opening-goes _ _ (c .before .before .before .before .before .head-line .ensures) (c .before .before .if1 .left) _ (c .before .one-line .ensures)
+
+pub read-opening-spec : {M : Type 1} → statement M
+read-opening-spec = tie.close (tie.spec head-line-requires returns one-line-requires returns-2)

@@ -1,0 +1,86 @@
+-- `jobs::walking::walk` meets its contract. Assumes nothing.
+use mathlib.Core.Path.{refl, _∙_}
+use native.Mathlib.Omega.{arith}
+use Rattle.common.specs.Limits.{maxNodes, maxOutputs}
+use Rattle.cells.proofs.Every.{held, broken}
+use Rattle.jobs.proofs.Walks.{walk-refused, nodes-few, outs-few, walk-unset, walk-past, walk-found}
+use borrow.Author.Needs.{needs}
+use Rattle.jobs.proofs.walking.walk.Statement.{statement}
+use Rattle.jobs.proofs.walking.walk.Tie as tie
+use Rattle.jobs.proofs.walking.walk.Reads as reads
+use Rattle.jobs.proofs.walking.walk.Lts as lts
+use Rattle.cells.proofs.checks.is_setting.Reads as is-setting-reads
+use Rattle.diagram.proofs.walking.walk_value.Reads as walk-value-reads
+use Rattle.jobs.proofs.reading.read_job.Reads as read-job-reads
+use Rattle.jobs.proofs.walking.no_walk.Reads as no-walk-reads
+
+read-job-requires : tie.Need-read-job-requires
+read-job-requires c κs = search needs
+
+returns : tie.Need-returns
+returns c =
+    walk-refused _ _ _ _ (c .before .before .before .read-job .ensures .0) (c .if1 .taken)
+
+is-setting-requires : tie.Need-is-setting-requires
+is-setting-requires c κs = search needs
+
+no-walk-requires : tie.Need-no-walk-requires
+no-walk-requires c κs = search needs
+
+returns-2 : tie.Need-returns-2
+returns-2 c =
+    c .no-walk .ensures
+    ∙ walk-unset _ _ _ _ (c .before .before .before .before .before .before .before .read-job .ensures .0) (c .before .before .before .before .if1 .left) (broken (c .before .before .is-setting .ensures) (c .before .if2 .taken))
+
+cast-if3 : tie.Need-cast-if3
+cast-if3 c = search needs
+
+no-walk-requires-2 : tie.Need-no-walk-requires-2
+no-walk-requires-2 c κs = search needs
+
+returns-3 : tie.Need-returns-3
+returns-3 c =
+    c .no-walk2 .ensures
+    ∙ walk-past _ _ _ _ (c .before .before .before .before .before .before .before .before .read-job .ensures .0) (c .before .before .before .before .before .if1 .left) (held (c .before .before .before .is-setting .ensures) (c .before .before .if2 .left)) (c .before .if3 .taken)
+
+mul-id : tie.Need-mul-id
+mul-id c = search needs
+
+element-copy-out-id : tie.Need-element-copy-out-id
+unfolding maxOutputs
+element-copy-out-id c =
+    let few = outs-few _ _ (c .before .before .before .before .before .before .before .read-job .ensures .0) (c .before .before .before .before .if1 .left) in
+    omega (arith, few, c .if3 .left)
+
+cast-n : tie.Need-cast-n
+cast-n c = search needs
+
+walk-value-requires : tie.Need-walk-value-requires
+walk-value-requires c κs =
+    nodes-few _ _ (c .before .before .before .before .before .before .before .before .before .before .before .read-job .ensures .0) (c .before .before .before .before .before .before .before .before .if1 .left)
+
+returns-4 : tie.Need-returns-4
+returns-4 c =
+    walk-found _ _ _ _ (c .before .before .before .before .before .before .before .before .before .before .before .before .read-job .ensures .0) (c .before .before .before .before .before .before .before .before .before .if1 .left) (held (c .before .before .before .before .before .before .before .is-setting .ensures) (c .before .before .before .before .before .before .if2 .left)) _ _ _ _ _ _
+    (c .before .before .before .before .before .before .before .before .before .before .before .before .read-job .ensures .1)
+    refl
+    (c .before .before .before .before .before .if3 .left)
+    (c .walk-value .ensures)
+
+pub walk-spec : {M : Type 1} → statement M
+walk-spec =
+    tie.close
+    (tie.spec
+    read-job-requires
+    returns
+    is-setting-requires
+    no-walk-requires
+    returns-2
+    cast-if3
+    no-walk-requires-2
+    returns-3
+    mul-id
+    element-copy-out-id
+    cast-n
+    walk-value-requires
+    returns-4)

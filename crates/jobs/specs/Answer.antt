@@ -1,0 +1,43 @@
+-- What the calls hand over for an outcome: the job record, the four arrays of the node table, and walk's answer.
+use Prim.Native.Nat.{ℕ}
+use mathlib.Core.Path.{_≡_}
+use mathlib.Core.List.{List, map}
+use lib.ListN.{length}
+use Rattle.common.specs.Limits.{maxOutputs}
+use Rattle.common.specs.Lists.{zeros, padded}
+use Rattle.common.specs.Outcome.{Outcome, refusalOf, valueOf}
+use Rattle.diagram.specs.declared.Node.{Node}
+use Rattle.diagram.specs.Diagram.{Diagram}
+use Rattle.jobs.specs.declared.Job.{Job}
+use Rattle.jobs.specs.declared.JobRead.{JobRead}
+use Rattle.jobs.specs.declared.Walked.{Walked}
+
+-- the record of a diagram: V, the label of terminal 1, N, K, and the ids that the outputs name, zeros past them
+unfoldable pub jobOf : Diagram → Job
+jobOf d =
+    record {
+      switches = d .switches;
+      one = d .one;
+      nodes = length (d .nodes);
+      outputs = length (d .outs);
+      outs = padded maxOutputs (d .outs);
+    }
+
+-- "0 as .. field of a record"
+unfoldable pub noJob : Job
+noJob = record { switches = 0; one = 0; nodes = 0; outputs = 0; outs = zeros maxOutputs }
+
+-- the reader's answer
+unfoldable pub jobRead : Outcome Diagram → JobRead
+jobRead o = record { refusal = refusalOf o; job = valueOf noJob jobOf o }
+
+-- four arrays that hold the entries of a table: X, L, H and T of each
+pub record Holds (nodes : List Node) (xs ls hs ts : List ℕ) : Type 0 where
+  pub switches : xs ≡ map (λ n. n .x) nodes
+  pub lows : ls ≡ map (λ n. n .l) nodes
+  pub highs : hs ≡ map (λ n. n .h) nodes
+  pub labels : ts ≡ map (λ n. n .t) nodes
+
+-- walk's answer
+unfoldable pub walked : Outcome ℕ → Walked
+walked o = record { refusal = refusalOf o; value = valueOf 0 (λ v. v) o }

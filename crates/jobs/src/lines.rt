@@ -1,0 +1,189 @@
+// Document 01, "Job text": each kind of line: "a line that is not the form due stops the reading". A step answers the refusal, or
+// number 0, the line's values and the position past it.
+use crate::HeadLine;
+use crate::NodeLine;
+use crate::OneLine;
+use crate::OutLine;
+use common::MAX_NODES;
+use common::Refusal;
+use diagram::grounds;
+use forms::Form;
+ghost use mathlib.Core.Path.{_≡_};
+ghost use mathlib.Core.List.{List, []};
+ghost use Prim.Native.Nat.{ℕ, _≤_, _<_};
+ghost use lib.ListN.{length, drop};
+ghost use Rattle.common.specs.Limits.{maxNodes};
+ghost use Rattle.figures.specs.Line.{linesOf, afterFirst};
+ghost use Rattle.diagram.specs.Stored.{stored};
+ghost use Rattle.jobs.specs.Steps.{HeadStep, OneStep, NodeStep, OutStep, EndStep};
+
+// The position past the line that starts at a position; the same position where no line feed ends it.
+pub fn next_line(text: &[u8], at: usize) -> usize
+    ensures { λ r. ⌜ linesOf (drop r (now (text .entry))) ≡ afterFirst (linesOf (drop at (now (text .entry)))) ⌝ }
+{
+    let end = figures::line_end(text, at);
+    if end < text.len() { end + 1 } else { at }
+}
+
+// The answers for a line with a refusal.
+fn no_head(number: u32) -> HeadLine
+    ensures { λ r. ⌜ r ≡ record { refusal = record { number = number; line = 1 }; switches = 0; nodes = 0; outputs = 0; next = 0 } ⌝ }
+{
+    HeadLine {
+        refusal: Refusal { number, line: 1 },
+        switches: 0,
+        nodes: 0,
+        outputs: 0,
+        next: 0,
+    }
+}
+
+fn no_node(number: u32, line: u32) -> NodeLine
+    ensures { λ r. ⌜ r ≡ record { refusal = record { number = number; line = line }; x = 0; l = 0; h = 0; t = 0; next = 0 } ⌝ }
+{
+    NodeLine {
+        refusal: Refusal { number, line },
+        x: 0,
+        l: 0,
+        h: 0,
+        t: 0,
+        next: 0,
+    }
+}
+
+// Line 1, `(job V N K)`: grounds 1 and 2.
+pub fn head_line(text: &[u8]) -> HeadLine
+    ensures { λ r. ⌜ HeadStep (now (text .entry)) r ⌝ }
+{
+    let Form::Job(f) = forms::form_at(text, 0, 1) else {
+        return no_head(1);
+    };
+    let number = grounds::head_fault(f.switches, f.nodes, f.outputs);
+    if number != 0 {
+        return no_head(number);
+    }
+    HeadLine {
+        refusal: Refusal { number: 0, line: 0 },
+        switches: f.switches as u16,
+        nodes: f.nodes as u16,
+        outputs: f.outputs as u16,
+        next: next_line(text, 0),
+    }
+}
+
+// Line 2, `(one T)`: grounds 1 and 9.
+pub fn one_line(text: &[u8], at: usize) -> OneLine
+    ensures { λ r. ⌜ OneStep (now (text .entry)) at r ⌝ }
+{
+    let Form::One(t) = forms::form_at(text, at, 2) else {
+        return OneLine {
+            refusal: Refusal { number: 1, line: 2 },
+            one: 0,
+            next: 0,
+        };
+    };
+    let one = t as u16;
+    let number = grounds::one_fault(one);
+    if number != 0 {
+        return OneLine {
+            refusal: Refusal { number, line: 2 },
+            one: 0,
+            next: 0,
+        };
+    }
+    OneLine {
+        refusal: Refusal { number: 0, line: 0 },
+        one,
+        next: next_line(text, at),
+    }
+}
+
+// A line `(node I X (L H) T)` after n nodes, which the arrays hold: grounds 1 and 3 to 9.
+pub fn node_line(
+    text: &[u8],
+    at: usize,
+    line: u32,
+    xs: &[u16; MAX_NODES],
+    ls: &[u16; MAX_NODES],
+    hs: &[u16; MAX_NODES],
+    ts: &[u16; MAX_NODES],
+    v: u16,
+    one: u16,
+    n: usize,
+) -> NodeLine
+    requires { ⌜ n ≤ maxNodes ⌝ }
+    ensures { λ r.
+        ⌜ NodeStep (now (text .entry)) at line (stored v one n (now (xs .entry)) (now (ls .entry)) (now (hs .entry)) (now (ts .entry)) []) r ⌝ }
+{
+    let Form::Node(f) = forms::form_at(text, at, line) else {
+        return no_node(1, line);
+    };
+    let t = f.t as u16;
+    let number = grounds::node_fault(xs, ls, hs, ts, v, one, n, f.id, f.x, f.l, f.h, t);
+    if number != 0 {
+        return no_node(number, line);
+    }
+    NodeLine {
+        refusal: Refusal { number: 0, line: 0 },
+        x: f.x as u16,
+        l: f.l as u16,
+        h: f.h as u16,
+        t,
+        next: next_line(text, at),
+    }
+}
+
+// A line `(out J I)` after n nodes and k outputs: grounds 1, 3, 5 and 9.
+pub fn out_line(
+    text: &[u8],
+    at: usize,
+    line: u32,
+    ts: &[u16; MAX_NODES],
+    one: u16,
+    n: usize,
+    k: usize,
+) -> OutLine
+    requires { ⌜ n ≤ maxNodes ⌝ }
+    ensures { λ r.
+        ⌜ ((v : ℕ) (xs ls hs outs : List ℕ)
+        → length outs ≡ k
+        → OutStep (now (text .entry)) at line (stored v one n xs ls hs (now (ts .entry)) outs) r) ⌝ }
+{
+    let Form::Out(f) = forms::form_at(text, at, line) else {
+        return OutLine {
+            refusal: Refusal { number: 1, line },
+            target: 0,
+            next: 0,
+        };
+    };
+    let number = grounds::out_fault(ts, one, n, k, f.number, f.target);
+    if number != 0 {
+        return OutLine {
+            refusal: Refusal { number, line },
+            target: 0,
+            next: 0,
+        };
+    }
+    OutLine {
+        refusal: Refusal { number: 0, line: 0 },
+        target: f.target as u16,
+        next: next_line(text, at),
+    }
+}
+
+// The line `(end)`: grounds 1 and 10.
+pub fn end_line(text: &[u8], at: usize, line: u32) -> Refusal
+    requires { ⌜ line < 1000 ⌝ }
+    ensures { λ r. ⌜ EndStep (now (text .entry)) at line r ⌝ }
+{
+    let Form::End = forms::form_at(text, at, line) else {
+        return Refusal { number: 1, line };
+    };
+    if next_line(text, at) < text.len() {
+        return Refusal {
+            number: 10,
+            line: line + 1,
+        };
+    }
+    Refusal { number: 0, line: 0 }
+}

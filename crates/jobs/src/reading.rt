@@ -1,0 +1,230 @@
+// Document 01, "Job text": the lines of a job in turn. "Text is read line by line; the first faulty line decides".
+use crate::Job;
+use crate::JobRead;
+use crate::NodesRead;
+use crate::Opening;
+use crate::OutsRead;
+use crate::lines;
+use common::MAX_NODES;
+use common::MAX_OUTPUTS;
+use common::Refusal;
+use diagram::counts;
+ghost use mathlib.Core.Path.{_≡_};
+ghost use mathlib.Core.List.{List};
+ghost use Prim.Native.Nat.{ℕ, _≤_};
+ghost use Rattle.common.specs.Limits.{maxNodes, maxOutputs};
+ghost use Rattle.common.specs.Lists.{zeros};
+ghost use Rattle.common.specs.Outcome.{refused};
+ghost use Rattle.jobs.specs.Answer.{noJob, jobRead, Holds};
+ghost use Rattle.jobs.specs.Job.{accepted, table};
+ghost use Rattle.jobs.specs.Steps.{OpeningStep, NodesStep, OutsStep, LinesRead};
+
+// The node table with zeros in every entry.
+pub fn clear_table(
+    xs: &mut [u16; MAX_NODES],
+    ls: &mut [u16; MAX_NODES],
+    hs: &mut [u16; MAX_NODES],
+    ts: &mut [u16; MAX_NODES],
+)
+    ensures { λ r.
+        ⌜ (now (xs .exit) ≡ zeros maxNodes)
+        × (now (ls .exit) ≡ zeros maxNodes)
+        × (now (hs .exit) ≡ zeros maxNodes)
+        × (now (ts .exit) ≡ zeros maxNodes) ⌝ }
+{
+    *xs = [0; MAX_NODES];
+    *ls = [0; MAX_NODES];
+    *hs = [0; MAX_NODES];
+    *ts = [0; MAX_NODES];
+}
+
+// The first two lines.
+pub fn read_opening(text: &[u8]) -> Opening
+    ensures { λ r. ⌜ OpeningStep (now (text .entry)) r ⌝ }
+{
+    let head = lines::head_line(text);
+    let first = head.refusal;
+    if first.number != 0 {
+        return Opening {
+            refusal: first,
+            switches: 0,
+            one: 0,
+            nodes: 0,
+            outputs: 0,
+            next: 0,
+        };
+    }
+    let one = lines::one_line(text, head.next);
+    let second = one.refusal;
+    Opening {
+        refusal: second,
+        switches: head.switches,
+        one: one.one,
+        nodes: head.nodes,
+        outputs: head.outputs,
+        next: one.next,
+    }
+}
+
+// Document 01, "Job text": "The reader fills a lent table of nodes, one entry a line." The n node lines from a position on; the
+// table is cleared first.
+pub fn read_nodes(
+    text: &[u8],
+    at: usize,
+    xs: &mut [u16; MAX_NODES],
+    ls: &mut [u16; MAX_NODES],
+    hs: &mut [u16; MAX_NODES],
+    ts: &mut [u16; MAX_NODES],
+    v: u16,
+    one: u16,
+    n: usize,
+) -> NodesRead
+    requires { ⌜ n ≤ maxNodes ⌝ }
+    ensures { λ r.
+        ⌜ NodesStep (now (text .entry)) at v one n (now (xs .exit)) (now (ls .exit)) (now (hs .exit)) (now (ts .exit)) r ⌝ }
+{
+    clear_table(xs, ls, hs, ts);
+    let mut next = at;
+    let mut k: usize = 0;
+    while k < n {
+        let r = lines::node_line(text, next, 3 + k as u32, xs, ls, hs, ts, v, one, k);
+        let refusal = r.refusal;
+        if refusal.number != 0 {
+            return NodesRead { refusal, next };
+        }
+        xs[k] = r.x;
+        ls[k] = r.l;
+        hs[k] = r.h;
+        ts[k] = r.t;
+        next = r.next;
+        k += 1;
+    }
+    NodesRead {
+        refusal: Refusal { number: 0, line: 0 },
+        next,
+    }
+}
+
+// The k lines of the outputs from a position on, after n nodes.
+pub fn read_outs(
+    text: &[u8],
+    at: usize,
+    ts: &[u16; MAX_NODES],
+    one: u16,
+    n: usize,
+    k: usize,
+) -> OutsRead
+    requires { ⌜ (n ≤ maxNodes) × (k ≤ maxOutputs) ⌝ }
+    ensures { λ r. ⌜ ((v : ℕ) (xs ls hs : List ℕ) → OutsStep (now (text .entry)) at v one n k xs ls hs (now (ts .entry)) r) ⌝ }
+{
+    let mut outs = [0u16; MAX_OUTPUTS];
+    let mut next = at;
+    let mut j: usize = 0;
+    while j < k {
+        let line = 3 + n as u32 + j as u32;
+        let r = lines::out_line(text, next, line, ts, one, n, j);
+        let refusal = r.refusal;
+        if refusal.number != 0 {
+            return OutsRead {
+                refusal,
+                outs,
+                next,
+            };
+        }
+        outs[j] = r.target;
+        next = r.next;
+        j += 1;
+    }
+    OutsRead {
+        refusal: Refusal { number: 0, line: 0 },
+        outs,
+        next,
+    }
+}
+
+// The answer for a refused job: zeros in every field.
+pub fn no_job(refusal: Refusal) -> JobRead
+    ensures { λ r. ⌜ r ≡ record { refusal = refusal; job = noJob } ⌝ }
+{
+    JobRead {
+        refusal,
+        job: Job {
+            switches: 0,
+            one: 0,
+            nodes: 0,
+            outputs: 0,
+            outs: [0; MAX_OUTPUTS],
+        },
+    }
+}
+
+// All lines, then ground 10 and ground 11. After a refusal the table may hold entries.
+pub fn read_lines(
+    text: &[u8],
+    xs: &mut [u16; MAX_NODES],
+    ls: &mut [u16; MAX_NODES],
+    hs: &mut [u16; MAX_NODES],
+    ts: &mut [u16; MAX_NODES],
+) -> JobRead
+    ensures { λ r. ⌜ LinesRead (now (text .entry)) (now (xs .exit)) (now (ls .exit)) (now (hs .exit)) (now (ts .exit)) r ⌝ }
+{
+    let o = read_opening(text);
+    let opening = o.refusal;
+    if opening.number != 0 {
+        return no_job(opening);
+    }
+    let n = o.nodes as usize;
+    let k = o.outputs as usize;
+    let nodes = read_nodes(text, o.next, xs, ls, hs, ts, o.switches, o.one, n);
+    let node = nodes.refusal;
+    if node.number != 0 {
+        return no_job(node);
+    }
+    let outs = read_outs(text, nodes.next, ts, o.one, n, k);
+    let out = outs.refusal;
+    if out.number != 0 {
+        return no_job(out);
+    }
+    let last = 3 + n as u32 + k as u32;
+    let end = lines::end_line(text, outs.next, last);
+    if end.number != 0 {
+        return no_job(end);
+    }
+    let ids = outs.outs;
+    if counts::too_large(ts, &ids, o.one, n, k) {
+        return no_job(Refusal {
+            number: 11,
+            line: last,
+        });
+    }
+    JobRead {
+        refusal: Refusal { number: 0, line: 0 },
+        job: Job {
+            switches: o.switches,
+            one: o.one,
+            nodes: o.nodes,
+            outputs: o.outputs,
+            outs: ids,
+        },
+    }
+}
+
+// Document 01, "Job text": reads a job. "entries without a line are zeros, and after a refusal it holds zeros only."
+pub fn read_job(
+    text: &[u8],
+    xs: &mut [u16; MAX_NODES],
+    ls: &mut [u16; MAX_NODES],
+    hs: &mut [u16; MAX_NODES],
+    ts: &mut [u16; MAX_NODES],
+) -> JobRead
+    ensures { λ r.
+        ⌜ (r ≡ jobRead (accepted (now (text .entry))))
+        × Holds (table (accepted (now (text .entry)))) (now (xs .exit)) (now (ls .exit)) (now (hs .exit)) (now (ts .exit)) ⌝ }
+{
+    let r = read_lines(text, xs, ls, hs, ts);
+    let refusal = r.refusal;
+    if refusal.number != 0 {
+        clear_table(xs, ls, hs, ts);
+    }
+    r
+}

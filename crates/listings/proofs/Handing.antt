@@ -1,0 +1,169 @@
+-- What load hands over, by the step at which it stops or comes to its end. Assumes nothing.
+use Prim.Native.Nat.{ℕ, zero, suc, _+_, _*_, _≤_, _<_}
+use mathlib.Core.Path.{_≡_, refl, sym, ap, _∙_}
+use mathlib.Core.Bool.{Bool, true, false, not}
+use mathlib.Core.Option.{some, none}
+use mathlib.Core.List.{List, [], _∷_}
+use native.Mathlib.Omega.{arith}
+use lib.ListN.{length, drop}
+use borrow.Author.Tests.{lt-ltb, le-ltb, not-false}
+use Rattle.common.specs.declared.Refusal.{Refusal}
+use Rattle.common.specs.Limits.{maxOutputs}
+use Rattle.common.specs.Lists.{zeros, padded}
+use Rattle.common.specs.Outcome.{Outcome, done, refused, _then_, lowest, unless, refusalOf, numberOf, lineOf, valueOf, bufferOf}
+use Rattle.common.proofs.Lists.{true-or-false}
+use Rattle.common.proofs.Outcome.{then-is, unless-none, not-met}
+use Rattle.figures.specs.Line.{Lines, linesOf, afterFirst, lineEnd}
+use Rattle.cells.specs.Record.{Whole, size, inRange}
+use Rattle.forms.specs.declared.SizeForm.{SizeForm}
+use Rattle.forms.specs.declared.Form.the-variants as form
+use Rattle.forms.specs.Form.{formIn, notDue, kindOf, valuesIn, ofKind, asSize}
+use Rattle.forms.proofs.Lines.{due-size, no-size, lines-after}
+use Rattle.listings.specs.declared.loading.Loaded.{Loaded}
+use Rattle.listings.specs.declared.loading.Outputs.{Outputs}
+use Rattle.listings.specs.declared.loading.Reached.{Reached}
+use Rattle.listings.specs.declared.loading.Reached.the-variants as reached
+use Rattle.listings.specs.Loading.{Listed, sized, sizeFault, loadOuts, loadCells, loadFrom, recordOf, cellsOf, fitted, loadAt}
+use Rattle.listings.specs.Loader.{loadedOf, Handed, listed, outputsOf, kept, CellsRead, CellsTold}
+use Rattle.listings.proofs.Kept.{kept-padded}
+use Rattle.listings.proofs.Loaded.{outs-told}
+use Rattle.listings.proofs.Steps.{line-here, unless-some}
+
+-- a refusal stands
+pub then-refused : {A B : Type 0} (o : Outcome A) (k l : ℕ) (f : A → Outcome B) → o ≡ refused k l → o then f ≡ refused k l
+unfolding _then_
+then-refused o k l f e = rw e
+
+-- the same outcome, and the same length of the buffer
+pub handed-as :
+    {o : Outcome Whole} {m : ℕ} {r : Loaded} {cells : List ℕ} (p : Outcome Whole) (room : ℕ)
+    → p ≡ o
+    → m ≡ room
+    → Handed o m r cells
+    → Handed p room r cells
+handed-as p room e k h = rw (e, ← k) h
+
+-- the same reading, and the same length of the buffer
+pub handed-rest :
+    {r : Loaded} {cells : List ℕ} (o p : Outcome Listed) (m room : ℕ)
+    → o ≡ p
+    → m ≡ room
+    → Handed (p then λ x. fitted m x) m r cells
+    → Handed (o then λ x. fitted room x) room r cells
+handed-rest o p m room e k h = rw (e, ← k) h
+
+pub handed-end :
+    {r : Loaded} {cells : List ℕ} (o : Outcome Listed) (x : Listed) (m room : ℕ)
+    → o ≡ done x
+    → m ≡ room
+    → Handed (fitted m x) m r cells
+    → Handed (o then λ x. fitted room x) room r cells
+unfolding _then_
+handed-end o x m room e k h = rw (e, ← k) h
+
+-- the record and the cells of a listing for which the buffer has room
+module _ (s : SizeForm) (codes stands : List ℕ) (room : ℕ) where
+  pub fitted-short : room < s .rows * s .columns → fitted room (listed s codes stands) ≡ refused 14 0
+  unfolding lowest unless size recordOf
+  fitted-short h = rw (lt-ltb room (s .rows * s .columns) h)
+
+  fitted-long :
+      s .rows * s .columns ≤ room
+      → fitted room (listed s codes stands) ≡ done (record { head = recordOf (listed s codes stands); codes = cellsOf (listed s codes stands) })
+  unfolding lowest unless size recordOf
+  fitted-long h = rw (le-ltb room (s .rows * s .columns) h)
+
+  pub handed-done :
+      (cells : List ℕ)
+      → cells ≡ kept room codes
+      → length codes ≤ s .rows * s .columns
+      → s .rows * s .columns ≤ room
+      → Handed (fitted room (listed s codes stands)) room
+      (record { refusal = record { number = 0; line = 0 }; head = recordOf (listed s codes stands) })
+      cells
+  unfolding loadedOf refusalOf numberOf lineOf valueOf bufferOf cellsOf
+  handed-done cells e h k =
+      handed-as (fitted room (listed s codes stands)) room (fitted-long k) refl
+      (record { answer = refl; buffer = e ∙ kept-padded room (s .rows * s .columns) codes h k })
+
+-- what the answers of the readers say
+pub cells-line :
+    {text : List ℕ} {s : SizeForm} {at n : ℕ} {cells : List ℕ} {room : ℕ} {r : Reached} {next m : ℕ}
+    → CellsTold text s at n cells room r
+    → r ≡ reached.Line next m
+    → CellsRead text s at n next m cells room
+unfolding CellsTold
+cells-line h e = rw e at h
+
+pub cells-refused :
+    (text : List ℕ) (s : SizeForm) (at n : ℕ) (cells : List ℕ) (room : ℕ) (r : Reached) (q : Refusal)
+    → CellsTold text s at n cells room r
+    → r ≡ reached.Refused q
+    → loadCells (listed s [] []) n (linesOf (drop at text)) ≡ refused (q .number) (q .line)
+unfolding CellsTold
+cells-refused text s at n cells room r q h e = rw e at h
+
+outputs-done :
+    (o : Outcome Listed) (r : Outputs) → r ≡ outputsOf o → r .ok ≡ true → (x : Listed) × (o ≡ done x) × (padded maxOutputs (x .outs) ≡ r .outs)
+unfolding outputsOf
+outputs-done (done x) r e h = (x, refl, sym (ap (λ (q : Outputs). q .outs) e))
+outputs-done (refused k l) r e h = absurd (true-or-false (r .ok) h (ap (λ (q : Outputs). q .ok) e))
+
+outputs-refused :
+    (o : Outcome Listed) (r : Outputs) → r ≡ outputsOf o → r .ok ≡ false → o ≡ refused (r .refusal .number) (r .refusal .line)
+unfolding outputsOf
+outputs-refused (done x) r e h = absurd (true-or-false (r .ok) (ap (λ (q : Outputs). q .ok) e) h)
+outputs-refused (refused k l) r e h = rw (ap (λ (q : Outputs). q .refusal) e)
+
+-- the lines after the first, where the cell lines are read
+module _
+    {text : List ℕ} {s : SizeForm} {at n next m : ℕ} {cells : List ℕ} {room : ℕ} (d : CellsRead text s at n next m cells room) (r : Outputs)
+    (is : (codes : List ℕ) → r ≡ outputsOf (loadOuts (s .outputs) (listed s codes []) m (linesOf (drop next text)))) where
+  pub rest-refused :
+      r .ok ≡ false → loadCells (listed s [] []) n (linesOf (drop at text)) ≡ refused (r .refusal .number) (r .refusal .line)
+  rest-refused h =
+      d .same ∙ outputs-refused (loadOuts (s .outputs) (listed s (d .codes) []) m (linesOf (drop next text))) r (is (d .codes)) h
+
+  -- the output rows
+  pub rest-done :
+      r .ok ≡ true
+      → (stands : List ℕ)
+      × (padded maxOutputs stands ≡ r .outs)
+      × (loadCells (listed s [] []) n (linesOf (drop at text)) ≡ done (listed s (d .codes) stands))
+  rest-done h =
+      let o = outputs-done (loadOuts (s .outputs) (listed s (d .codes) []) m (linesOf (drop next text))) r (is (d .codes)) h in
+      let t = outs-told (s .outputs) (listed s (d .codes) []) m (linesOf (drop next text)) (o .0) (o .1) in
+      (t .stands, ap (λ (x : Listed). padded maxOutputs (x .outs)) (t .result) ∙ o .2, d .same ∙ o .1 ∙ ap done (sym (t .result)))
+
+-- the first line
+pub first-missing : (n : ℕ) (ls : Lines) → asSize (formIn ls n) ≡ none → loadFrom n ls ≡ refused 1 n
+unfolding loadFrom _then_
+first-missing n ls h = rw (no-size ls n h)
+
+pub size-right : (s : SizeForm) → sizeFault (listed s [] []) ≡ 0 → inRange (s .rows) (s .columns) (s .switches) (s .outputs) ≡ true
+unfolding sizeFault
+size-right s h = not-false _ (not-met 1 (not (inRange (s .rows) (s .columns) (s .switches) (s .outputs))) [] h)
+
+module _ (text : List ℕ) (at n : ℕ) (s : SizeForm) (e : formIn (linesOf (drop at text)) n ≡ form.Size s) where
+  named : asSize (formIn (linesOf (drop at text)) n) ≡ some (s .rows ∷ s .columns ∷ s .switches ∷ s .outputs ∷ [])
+  unfolding ofKind kindOf valuesIn
+  named = ap (λ f. asSize f) e
+
+  -- a line feed ends it
+  pub first-inside : lineEnd text at < length text
+  unfolding notDue ofKind kindOf
+  first-inside = line-here (λ f. asSize f) text at n (s .rows ∷ s .columns ∷ s .switches ∷ s .outputs ∷ []) refl named
+
+  step :
+      loadFrom n (linesOf (drop at text))
+      ≡ unless (sizeFault (listed s [] [])) n (loadCells (listed s [] []) (n + 1) (linesOf (drop (lineEnd text at + 1) text)))
+  unfolding loadFrom _then_ sized
+  step = rw (due-size (linesOf (drop at text)) n (s .rows ∷ s .columns ∷ s .switches ∷ s .outputs ∷ []) named, lines-after text at first-inside)
+
+  pub first-fault : (k : ℕ) → k ≡ sizeFault (listed s [] []) → (k ≡ 0 → ⊥) → loadFrom n (linesOf (drop at text)) ≡ refused k n
+  first-fault k is h = step ∙ rw (← is) (unless-some k n _ h)
+
+  pub first-right :
+      sizeFault (listed s [] []) ≡ 0
+      → loadFrom n (linesOf (drop at text)) ≡ loadCells (listed s [] []) (n + 1) (linesOf (drop (lineEnd text at + 1) text))
+  first-right h = step ∙ unless-none (sizeFault (listed s [] [])) n _ h

@@ -1,0 +1,144 @@
+-- The reader of cell lines between two lines: what it has read so far, and how a line takes it further. Assumes nothing.
+use Prim.Native.Nat.{ℕ, suc, _+_, _*_, _≤_, _<_}
+use mathlib.Core.Path.{_≡_, refl, sym, ap, _∙_}
+use mathlib.Core.Option.{Option, some, none}
+use mathlib.Core.List.{List, [], _∷_, _++_}
+use native.Mathlib.Omega.{arith}
+use native.Mathlib.Numerals.{add-one}
+use native.Mathlib.Nat.{mul-le-mul-right}
+use lib.ListN.{length, drop, set}
+use Rattle.common.specs.Limits.{maxSwitches}
+use Rattle.common.specs.Lists.{zeros, padded}
+use Rattle.common.specs.Outcome.{refused, unless}
+use Rattle.common.proofs.Outcome.{unless-none}
+use Rattle.figures.specs.Line.{linesOf, afterFirst, lineEnd}
+use Rattle.cells.specs.Code.{codeOf}
+use Rattle.forms.specs.declared.SizeForm.{SizeForm}
+use Rattle.forms.specs.declared.CellForm.{CellForm}
+use Rattle.forms.specs.declared.Form.{Form}
+use Rattle.forms.specs.declared.Form.the-variants as form
+use Rattle.forms.specs.Form.{formIn, notDue, asCell}
+use Rattle.forms.proofs.Lines.{lines-after}
+use Rattle.listings.specs.declared.loading.Reached.the-variants as reached
+use Rattle.listings.specs.Loading.{Listed, cellFault, withCell, loadOuts, loadCells}
+use Rattle.listings.specs.Loader.{listed, placedBy, kept, CellsRead, CellsTold}
+use Rattle.listings.proofs.Cells.{below-code}
+use Rattle.listings.proofs.Loaded.{CellFacts, cell-facts, length-with}
+use Rattle.listings.proofs.Kept.{length-kept, kept-none, kept-set}
+use Rattle.listings.proofs.Steps.{line-here, unless-some, cell-line, other-line, Small}
+
+-- cell lines from the position at, line n, on, with the next line at the position next, line m, and the cells before it in the first
+-- count places
+pub record Going (text : List ℕ) (s : SizeForm) (at n room : ℕ) (cells : List ℕ) (next m count : ℕ) : Type 0 where
+  pub codes : List ℕ
+  pub same : loadCells (listed s [] []) n (linesOf (drop at text)) ≡ loadCells (listed s codes []) m (linesOf (drop next text))
+  pub counted : length codes ≡ count
+  pub short : length codes ≤ s .rows * s .columns
+  pub lines : m ≤ n + length codes
+  pub holds : cells ≡ kept room codes
+
+pub going-start :
+    (text : List ℕ) (s : SizeForm) (at n : ℕ) (cells : List ℕ) → cells ≡ zeros (length cells) → Going text s at n (length cells) cells at n 0
+going-start text s at n cells clear =
+    record {
+      codes = [];
+      same = refl;
+      counted = refl;
+      short = omega arith;
+      lines = omega arith;
+      holds = clear ∙ kept-none (length cells);
+    }
+
+-- a cell line without a fault
+pub record Right (s : SizeForm) (count : ℕ) (f : CellForm) : Type 0 where
+  pub row-small : f .row < 128
+  pub column-small : f .column < 128
+  pub later : count ≤ f .row * s .columns + f .column
+  pub inside : f .row * s .columns + f .column < s .rows * s .columns
+  pub code-small : codeOf (f .cell) < 256
+
+pub right :
+    (s : SizeForm) (codes : List ℕ) (count : ℕ) (f : CellForm)
+    → Small s
+    → length codes ≡ count
+    → cellFault (listed s codes []) (placedBy f) ≡ 0
+    → Right s count f
+unfolding maxSwitches
+right s codes count f z e h =
+    let w = cell-facts (listed s codes []) (placedBy f) h in
+    let code = below-code (s .switches) (f .cell) (w .switch-in) in
+    record {
+      row-small = omega (arith, w .row-in);
+      column-small = omega (arith, w .column-in);
+      later = omega (arith, w .later);
+      inside = omega (arith, w .column-in, mul-le-mul-right (s .columns) (w .row-in));
+      code-small = omega arith;
+    }
+
+module _ {text : List ℕ} {s : SizeForm} {at n room : ℕ} {cells : List ℕ} {next m count : ℕ} (g : Going text s at n room cells next m count) (z : Small s) where
+  pub held : length cells ≡ room
+  held = ap length (g .holds) ∙ length-kept room (g .codes)
+
+  -- a line that is no cell line
+  pub going-other : asCell (formIn (linesOf (drop next text)) m) ≡ none → CellsTold text s at n cells room (reached.Line next m)
+  unfolding CellsTold
+  going-other e =
+      record {
+        codes = g .codes;
+        same = g .same ∙ other-line (listed s (g .codes) []) m (linesOf (drop next text)) (z .outputs-least) e;
+        holds = g .holds;
+        short = g .short;
+        lines = g .lines;
+      }
+
+  module _ (f : CellForm) (e : formIn (linesOf (drop next text)) m ≡ form.Cell f) where
+    named : asCell (formIn (linesOf (drop next text)) m) ≡ some (placedBy f)
+    unfolding asCell
+    named = ap asCell e
+
+    -- a line feed ends it
+    pub going-inside : lineEnd text next < length text
+    unfolding asCell notDue
+    going-inside = line-here asCell text next m (placedBy f) refl named
+
+    step :
+        loadCells (listed s [] []) n (linesOf (drop at text))
+        ≡ unless (cellFault (listed s (g .codes) []) (placedBy f)) m
+        (loadCells (withCell (listed s (g .codes) []) (placedBy f)) (m + 1) (linesOf (drop (lineEnd text next + 1) text)))
+    step =
+        g .same
+        ∙ rw (← (lines-after text next going-inside))
+        (cell-line (listed s (g .codes) []) m (linesOf (drop next text)) (placedBy f) (z .switches-most) named)
+
+    -- a cell line with a fault
+    pub going-fault :
+        (cells' : List ℕ) (k : ℕ)
+        → k ≡ cellFault (listed s (g .codes) []) (placedBy f)
+        → (k ≡ 0 → ⊥)
+        → CellsTold text s at n cells' room (reached.Refused (record { number = k; line = m }))
+    unfolding CellsTold
+    going-fault cells' k is h = step ∙ rw (← is) (unless-some k m _ h)
+
+    -- a cell line without one
+    pub going-more :
+        (p code : ℕ) (stored : List ℕ)
+        → cellFault (listed s (g .codes) []) (placedBy f) ≡ 0
+        → p ≡ f .row * s .columns + f .column
+        → code ≡ codeOf (f .cell)
+        → stored ≡ set cells p code
+        → Going text s at n room stored (lineEnd text next + 1) (m + 1) (p + 1)
+    unfolding withCell
+    going-more p code stored h place coded is =
+        let x = listed s (g .codes) [] in
+        let w = right s (g .codes) count f z (g .counted) h in
+        let q = f .row * s .columns + f .column in
+        let after : length (g .codes) ≤ q = omega (arith, g .counted, w .later) in
+        let full : length (padded q (g .codes) ++ (codeOf (f .cell) ∷ [])) ≡ suc q = length-with x (placedBy f) after in
+        record {
+          codes = padded q (g .codes) ++ (codeOf (f .cell) ∷ []);
+          same = step ∙ unless-none (cellFault x (placedBy f)) m _ h;
+          counted = rw (full, place) (omega arith);
+          short = rw full (w .inside);
+          lines = rw full (omega (arith, g .lines));
+          holds = is ∙ rw (place, coded, g .holds) (kept-set room (g .codes) q (codeOf (f .cell)) after);
+        }

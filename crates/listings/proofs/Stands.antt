@@ -1,0 +1,144 @@
+-- The reader of output lines between two lines: the output rows so far, and how a line takes it further. Assumes nothing.
+use Prim.Native.Nat.{ℕ, zero, suc, _+_, _-_, _≤_, _<_}
+use mathlib.Core.Path.{_≡_, refl, sym, ap, _∙_}
+use mathlib.Core.Option.{Option, some, none}
+use mathlib.Core.List.{List, [], _∷_, _++_}
+use native.Mathlib.Omega.{arith}
+use lib.ListN.{length, getD, drop, set, length-append}
+use borrow.Author.Tests.{ltb-true}
+use Rattle.common.specs.Limits.{maxOutputs}
+use Rattle.common.specs.Lists.{zeros, padded}
+use Rattle.common.specs.Outcome.{Outcome, refused, _then_, unless}
+use Rattle.common.proofs.Outcome.{unless-none}
+use Rattle.figures.specs.Line.{Lines, linesOf, afterFirst, lineEnd}
+use Rattle.forms.specs.declared.SizeForm.{SizeForm}
+use Rattle.forms.specs.declared.OutForm.{OutForm}
+use Rattle.forms.specs.declared.Form.the-variants as form
+use Rattle.forms.specs.Form.{formIn, notDue, kindOf, valuesIn, ofKind, asOut}
+use Rattle.forms.proofs.Lines.{due-out, no-out, lines-after}
+use Rattle.listings.specs.Loading.{Listed, standFault, withStand, loadEnd, loadOuts}
+use Rattle.listings.specs.Loader.{listed}
+use Rattle.listings.proofs.Loaded.{stand-facts}
+use Rattle.listings.proofs.Kept.{padded-set}
+use Rattle.listings.proofs.Steps.{line-here, unless-some, Small}
+
+-- output lines from the position at, line n, on, with the line of output j at the position next, line m
+pub record Standing (text : List ℕ) (s : SizeForm) (at n : ℕ) (outs : List ℕ) (next m j : ℕ) : Type 0 where
+  pub stands : List ℕ
+  pub same :
+      (codes : List ℕ)
+      → loadOuts (s .outputs) (listed s codes []) n (linesOf (drop at text))
+      ≡ loadOuts (s .outputs - j) (listed s codes stands) m (linesOf (drop next text))
+  pub counted : length stands ≡ j
+  pub most : j ≤ s .outputs
+  pub lines : m ≤ n + j
+  pub holds : padded maxOutputs stands ≡ outs
+
+pub standing-start : (text : List ℕ) (s : SizeForm) (at n : ℕ) → Standing text s at n (zeros 32) at n 0
+unfolding padded maxOutputs
+standing-start text s at n =
+    let whole : s .outputs ≡ s .outputs - 0 = omega arith in
+    record {
+      stands = [];
+      same = λ codes. ap (λ (k : ℕ). loadOuts k (listed s codes []) n (linesOf (drop at text))) whole;
+      counted = refl;
+      most = omega arith;
+      lines = omega arith;
+      holds = refl;
+    }
+
+-- the line of an output due, by its form
+missing-step : (k : ℕ) (x : Listed) (n : ℕ) (ls : Lines) → asOut (formIn ls n) ≡ none → loadOuts (suc k) x n ls ≡ refused 1 n
+unfolding loadOuts _then_
+missing-step k x n ls h = rw (no-out ls n h)
+
+stand-step :
+    (k : ℕ) (x : Listed) (n : ℕ) (ls : Lines) (j r : ℕ)
+    → asOut (formIn ls n) ≡ some (j ∷ r ∷ [])
+    → loadOuts (suc k) x n ls ≡ unless (standFault x j r) n (loadOuts k (withStand x r) (n + 1) (afterFirst ls))
+unfolding loadOuts _then_
+stand-step k x n ls j r h = rw (due-out ls n (j ∷ r ∷ []) h)
+
+module _ {text : List ℕ} {s : SizeForm} {at n : ℕ} {outs : List ℕ} {next m j : ℕ} (g : Standing text s at n outs next m j) where
+  -- after the last output line
+  pub standing-end :
+      s .outputs ≤ j
+      → (codes : List ℕ)
+      → loadOuts (s .outputs) (listed s codes []) n (linesOf (drop at text))
+      ≡ loadEnd (listed s codes (g .stands)) m (linesOf (drop next text))
+  unfolding loadOuts
+  standing-end h codes =
+      let none-left : s .outputs - j ≡ 0 = omega arith in
+      g .same codes ∙ ap (λ (k : ℕ). loadOuts k (listed s codes (g .stands)) m (linesOf (drop next text))) none-left
+
+  module _ (h : j < s .outputs) where
+    one-more : s .outputs - j ≡ suc (s .outputs - (j + 1))
+    one-more = omega arith
+
+    due-here :
+        (codes : List ℕ)
+        → loadOuts (s .outputs) (listed s codes []) n (linesOf (drop at text))
+        ≡ loadOuts (suc (s .outputs - (j + 1))) (listed s codes (g .stands)) m (linesOf (drop next text))
+    due-here codes =
+        g .same codes ∙ ap (λ (k : ℕ). loadOuts k (listed s codes (g .stands)) m (linesOf (drop next text))) one-more
+
+    -- a line that is not an output's
+    pub standing-missing :
+        asOut (formIn (linesOf (drop next text)) m) ≡ none
+        → (codes : List ℕ)
+        → loadOuts (s .outputs) (listed s codes []) n (linesOf (drop at text)) ≡ refused 1 m
+    standing-missing e codes =
+        due-here codes ∙ missing-step (s .outputs - (j + 1)) (listed s codes (g .stands)) m (linesOf (drop next text)) e
+
+    module _ (f : OutForm) (e : formIn (linesOf (drop next text)) m ≡ form.Out f) where
+      named : asOut (formIn (linesOf (drop next text)) m) ≡ some (f .number ∷ f .target ∷ [])
+      unfolding ofKind kindOf valuesIn
+      named = ap (λ g. asOut g) e
+
+      -- a line feed ends it
+      pub standing-inside : lineEnd text next < length text
+      unfolding notDue ofKind kindOf
+      standing-inside = line-here (λ g. asOut g) text next m (f .number ∷ f .target ∷ []) refl named
+
+      step :
+          (codes : List ℕ)
+          → loadOuts (s .outputs) (listed s codes []) n (linesOf (drop at text))
+          ≡ unless (standFault (listed s codes (g .stands)) (f .number) (f .target)) m
+          (loadOuts (s .outputs - (j + 1)) (withStand (listed s codes (g .stands)) (f .target)) (m + 1)
+          (linesOf (drop (lineEnd text next + 1) text)))
+      step codes =
+          due-here codes
+          ∙ rw (← (lines-after text next standing-inside))
+          (stand-step (s .outputs - (j + 1)) (listed s codes (g .stands)) m (linesOf (drop next text)) (f .number) (f .target) named)
+
+      -- an output line with a fault
+      pub standing-fault :
+          (k : ℕ)
+          → ((codes stands : List ℕ) → length stands ≡ j → k ≡ standFault (listed s codes stands) (f .number) (f .target))
+          → (k ≡ 0 → ⊥)
+          → (codes : List ℕ)
+          → loadOuts (s .outputs) (listed s codes []) n (linesOf (drop at text)) ≡ refused k m
+      standing-fault k is bad codes = step codes ∙ rw (← (is codes (g .stands) (g .counted))) (unless-some k m _ bad)
+
+      -- an output line without one
+      module _
+          (k : ℕ) (z : Small s)
+          (is : (codes stands : List ℕ) → length stands ≡ j → k ≡ standFault (listed s codes stands) (f .number) (f .target))
+          (none : k ≡ 0) where
+        pub target-small : f .target < 128
+        target-small =
+            let w = stand-facts (listed s [] (g .stands)) (f .number) (f .target) (sym (is [] (g .stands) (g .counted)) ∙ none) in
+            omega (arith, ltb-true (f .target) (s .rows) (w .1))
+
+        pub standing-more : Standing text s at n (set outs j (f .target)) (lineEnd text next + 1) (m + 1) (j + 1)
+        unfolding withStand maxOutputs
+        standing-more =
+            let room : j < maxOutputs = omega arith in
+            record {
+              stands = g .stands ++ (f .target ∷ []);
+              same = λ codes. step codes ∙ unless-none _ m _ (sym (is codes (g .stands) (g .counted)) ∙ none);
+              counted = simp length-append (omega (arith, g .counted));
+              most = omega arith;
+              lines = omega (arith, g .lines);
+              holds = sym (rw (← (g .holds)) (padded-set maxOutputs (g .stands) j (f .target) (g .counted) room));
+            }

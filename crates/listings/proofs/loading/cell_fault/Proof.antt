@@ -1,0 +1,51 @@
+-- `listings::loading::cell_fault` meets its contract: each return knows the tests that the cell passed. Assumes nothing.
+use borrow.Author.Needs.{needs}
+use mathlib.Core.Path.{_≡_, sym, ap, _∙_}
+use mathlib.Core.Bool.{true, false}
+use native.Mathlib.Omega.{arith}
+use Rattle.common.specs.Outcome.{lowest}
+use Rattle.listings.proofs.Steps.{sizes-small, row-out, column-out, cell-early, cell-named}
+use Rattle.listings.proofs.loading.cell_fault.Statement.{statement}
+use Rattle.listings.proofs.loading.cell_fault.Tie as tie
+use Rattle.listings.proofs.loading.cell_fault.Reads as reads
+use Rattle.listings.proofs.loading.cell_fault.Lts as lts
+use Rattle.listings.proofs.loading.place_of.Reads as place-of-reads
+use Rattle.listings.proofs.loading.switch_below.Reads as switch-below-reads
+
+returns : tie.Need-returns
+returns c = λ codes e. sym (row-out _ _ (c .if1 .taken))
+
+returns-2 : tie.Need-returns-2
+returns-2 c = λ codes e. sym (column-out _ _ (c .before .before .before .if1 .left) (c .if2 .taken))
+
+place-of-requires : tie.Need-place-of-requires
+place-of-requires c κs =
+    let a = c .before .before .before .before .before .before .args in
+    let z = sizes-small (a .s) (c .before .before .before .before .before .before .pre) in
+    (omega arith, omega arith, omega arith)
+
+returns-3 : tie.Need-returns-3
+returns-3 c = λ codes e. sym (cell-early _ _ (omega arith) (omega arith) (omega arith))
+
+switch-below-requires : tie.Need-switch-below-requires
+switch-below-requires c κs = search needs
+
+returns-4 : tie.Need-returns-4
+unfolding lowest
+returns-4 c = λ codes e. sym (cell-named _ _ true (omega arith) (omega arith) (omega arith) (sym (c .before .switch-below .ensures) ∙ c .if4 .taken))
+
+returns-5 : tie.Need-returns-5
+unfolding lowest
+returns-5 c = λ codes e. sym (cell-named _ _ false (omega arith) (omega arith) (omega arith) (sym (c .before .switch-below .ensures) ∙ c .if4 .left))
+
+pub cell-fault-spec : {M : Type 1} → statement M
+cell-fault-spec =
+    tie.close
+    (tie.spec
+    returns
+    returns-2
+    place-of-requires
+    returns-3
+    switch-below-requires
+    returns-4
+    returns-5)

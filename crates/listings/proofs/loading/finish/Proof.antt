@@ -1,0 +1,89 @@
+-- `listings::loading::finish` meets its contract: ground 14, or the record and the cells. Assumes nothing.
+use borrow.Author.Needs.{needs}
+use Prim.Native.Nat.{ℕ}
+use mathlib.Core.Path.{_≡_, refl, sym, ap, _∙_}
+use mathlib.Core.List.{List}
+use native.Mathlib.Omega.{arith}
+use lib.ListN.{length}
+use Rattle.common.specs.Limits.{maxSwitches}
+use Rattle.listings.specs.Loading.{recordOf, fitted}
+use Rattle.listings.specs.Loader.{listed, Handed}
+use Rattle.listings.proofs.Steps.{sizes-small}
+use Rattle.listings.proofs.Handing.{handed-as, fitted-short, handed-done}
+use Rattle.listings.proofs.loading.finish.Statement.{statement}
+use Rattle.listings.proofs.loading.finish.Tie as tie
+use Rattle.listings.proofs.loading.finish.Reads as reads
+use Rattle.listings.proofs.loading.finish.Lts as lts
+use Rattle.listings.proofs.loading.refuse.Reads as refuse-reads
+
+mul-size : tie.Need-mul-size
+mul-size c =
+    let a = c .before .before .args in
+    let z = sizes-small (a .s) (c .before .before .pre) in
+    omega (arith, z .cells-most)
+
+cast-size : tie.Need-cast-size
+cast-size c =
+    let a = c .before .before .args in
+    let z = sizes-small (a .s) (c .before .before .pre) in
+    omega (arith, z .cells-most)
+
+refuse-requires : tie.Need-refuse-requires
+refuse-requires c κs = search needs
+
+same-length : tie.Need-same-length
+same-length c = search needs
+
+returns : tie.Need-returns
+returns c =
+    λ codes stands e h o.
+    let a = c .before .before .before .before .before .before .before .args in
+    handed-as (fitted (length (a .cells .now)) (listed (a .s) codes stands)) (length (a .cells .now))
+    (fitted-short (a .s) codes stands (length (a .cells .now)) (c .before .before .before .before .if1 .taken)) refl (c .before .before .refuse .ensures)
+
+cast-t12 : tie.Need-cast-t12
+cast-t12 c =
+    let a = c .before .before .before .before .args in
+    let z = sizes-small (a .s) (c .before .before .before .before .pre) in
+    omega (arith, z .rows-most)
+
+cast-t13 : tie.Need-cast-t13
+cast-t13 c =
+    let a = c .before .before .before .before .before .args in
+    let z = sizes-small (a .s) (c .before .before .before .before .before .pre) in
+    omega (arith, z .columns-most)
+
+cast-t14 : tie.Need-cast-t14
+unfolding maxSwitches
+cast-t14 c =
+    let a = c .before .before .before .before .before .before .args in
+    let z = sizes-small (a .s) (c .before .before .before .before .before .before .pre) in
+    omega (arith, z .switches-most)
+
+cast-t15 : tie.Need-cast-t15
+cast-t15 c =
+    let a = c .before .before .before .before .before .before .before .args in
+    let z = sizes-small (a .s) (c .before .before .before .before .before .before .before .pre) in
+    omega (arith, z .outputs-most)
+
+returns-2 : tie.Need-returns-2
+unfolding recordOf
+returns-2 c =
+    λ codes stands e h o.
+    let a = c .before .before .before .before .before .before .before .args in
+    rw (← o) (handed-done (a .s) codes stands (length (a .cells .now)) (a .cells .now) e h (c .before .before .before .before .if1 .left))
+
+pub finish-spec : {M : Type 1} → statement M
+finish-spec =
+    tie.close
+    (tie.spec
+    mul-size
+    cast-size
+    refuse-requires
+    same-length
+    returns
+    cast-t12
+    cast-t13
+    cast-t14
+    cast-t15
+    returns-2)

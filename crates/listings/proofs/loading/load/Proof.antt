@@ -1,0 +1,21 @@
+-- `listings::loading::load` meets its contract: the listing starts at the text's first byte, on line 1. Assumes nothing.
+use borrow.Author.Needs.{needs}
+use Rattle.listings.specs.Loading.{load}
+use Rattle.listings.proofs.loading.load.Statement.{statement}
+use Rattle.listings.proofs.loading.load.Tie as tie
+use Rattle.listings.proofs.loading.load.Reads as reads
+use Rattle.listings.proofs.loading.load.Lts as lts
+use Rattle.listings.proofs.loading.load_from.Reads as load-from-reads
+
+load-from-requires : tie.Need-load-from-requires
+load-from-requires c κs = search needs
+
+same-length : tie.Need-same-length
+same-length c = search needs
+
+returns : tie.Need-returns
+unfolding load
+returns c = c .before .before .load-from .ensures
+
+pub load-spec : {M : Type 1} → statement M
+load-spec = tie.close (tie.spec load-from-requires same-length returns)

@@ -1,0 +1,15 @@
+-- `listings::loading::no_outputs` meets its contract. Assumes nothing.
+use mathlib.Core.Path.{refl}
+use Rattle.common.specs.Limits.{maxOutputs}
+use Rattle.listings.specs.Loader.{outputsOf}
+use Rattle.listings.proofs.loading.no_outputs.Statement.{statement}
+use Rattle.listings.proofs.loading.no_outputs.Tie as tie
+use Rattle.listings.proofs.loading.no_outputs.Reads as reads
+use Rattle.listings.proofs.loading.no_outputs.Lts as lts
+
+returns : tie.Need-returns
+unfolding outputsOf maxOutputs
+returns c = refl
+
+pub no-outputs-spec : {M : Type 1} → statement M
+no-outputs-spec = tie.close (tie.spec returns)

@@ -1,0 +1,24 @@
+-- `listings::loading::stand_fault` meets its contract. Assumes nothing.
+use borrow.Author.Needs.{needs}
+use mathlib.Core.Path.{sym, _∙_}
+use native.Mathlib.Omega.{arith}
+use Rattle.listings.proofs.Steps.{out-of-turn, stand-out, stand-in}
+use Rattle.listings.proofs.loading.stand_fault.Statement.{statement}
+use Rattle.listings.proofs.loading.stand_fault.Tie as tie
+use Rattle.listings.proofs.loading.stand_fault.Reads as reads
+use Rattle.listings.proofs.loading.stand_fault.Lts as lts
+
+cast-if1 : tie.Need-cast-if1
+cast-if1 c = search needs
+
+returns : tie.Need-returns
+returns c = λ codes stands e. sym (out-of-turn _ _ _ (λ h. c .if1 .taken (h ∙ e)))
+
+returns-2 : tie.Need-returns-2
+returns-2 c = λ codes stands e. sym (stand-in _ _ _ (c .before .before .before .if1 .left ∙ sym e) (c .if2 .taken))
+
+returns-3 : tie.Need-returns-3
+returns-3 c = λ codes stands e. sym (stand-out _ _ _ (c .before .before .before .if1 .left ∙ sym e) (c .if2 .left))
+
+pub stand-fault-spec : {M : Type 1} → statement M
+stand-fault-spec = tie.close (tie.spec cast-if1 returns returns-2 returns-3)

@@ -1,0 +1,23 @@
+-- `listings::loading::store` meets its contract: a store past the end changes nothing. Assumes nothing.
+use borrow.Author.Needs.{needs}
+use mathlib.Core.Path.{sym}
+use lib.Seq.{set-out}
+use Rattle.listings.proofs.loading.store.Statement.{statement}
+use Rattle.listings.proofs.loading.store.Tie as tie
+use Rattle.listings.proofs.loading.store.Reads as reads
+use Rattle.listings.proofs.loading.store.Lts as lts
+
+slice-write-cells : tie.Need-slice-write-cells
+slice-write-cells c = search needs
+
+same-length : tie.Need-same-length
+same-length c = search needs
+
+returns : tie.Need-returns
+returns c = search needs
+
+returns-2 : tie.Need-returns-2
+returns-2 c = sym (set-out _ _ _ (c .if1 .left))
+
+pub store-spec : {M : Type 1} → statement M
+store-spec = tie.close (tie.spec slice-write-cells same-length returns returns-2)

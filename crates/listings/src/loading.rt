@@ -1,0 +1,329 @@
+// Load: a listing read line by line into a record and a buffer of cells.
+use cells::Cell;
+use cells::Crossbar;
+use common::MAX_COLUMNS;
+use common::MAX_OUTPUTS;
+use common::MAX_ROWS;
+use common::MAX_SWITCHES;
+use common::Refusal;
+use forms::CellForm;
+use forms::Form;
+use forms::OutForm;
+use forms::SizeForm;
+ghost use mathlib.Core.Path.{_≡_};
+ghost use mathlib.Core.Bool.{true};
+ghost use mathlib.Core.List.{List, []};
+ghost use Prim.Native.Nat.{ℕ, _+_, _*_, _≤_, _<_};
+ghost use lib.ListN.{length, drop, set};
+ghost use Rattle.common.specs.Limits.{maxOutputs};
+ghost use Rattle.common.specs.Lists.{zeros, padded};
+ghost use Rattle.common.specs.Outcome.{Outcome, done, refused, _then_};
+ghost use Rattle.figures.specs.Line.{linesOf};
+ghost use Rattle.cells.specs.Record.{inRange};
+ghost use Rattle.listings.specs.Loading.{Listed, switchBelow, cellFault, standFault, sizeFault, loadEnd, loadOuts, loadCells, fitted, loadAt, load};
+ghost use Rattle.listings.specs.Loader.{loadedOf, Handed, listed, placedBy, outputsOf, kept, CellsTold};
+
+// What load answers: the refusal, and the record.
+pub struct Loaded {
+    pub refusal: Refusal,
+    pub head: Crossbar,
+}
+
+// Where the cell lines end: the position and the number of the first other line, or the refusal of a cell line.
+enum Reached {
+    Line { at: usize, line: u32 },
+    Refused(Refusal),
+}
+
+// What the output lines and the last line give: the output rows, or the refusal of a line.
+struct Outputs {
+    ok: bool,
+    refusal: Refusal,
+    outs: [u16; MAX_OUTPUTS],
+}
+
+// Ground 2, on the figures of the first line.
+fn size_fault(s: SizeForm) -> u32
+    ensures { λ r. ⌜ r ≡ sizeFault (listed s [] []) ⌝ }
+{
+    if s.rows < 1 {
+        return 2;
+    }
+    if MAX_ROWS < s.rows as usize {
+        return 2;
+    }
+    if MAX_COLUMNS < s.columns as usize {
+        return 2;
+    }
+    if MAX_SWITCHES < s.switches as usize {
+        return 2;
+    }
+    if s.outputs < 1 {
+        return 2;
+    }
+    if MAX_OUTPUTS < s.outputs as usize {
+        2
+    } else {
+        0
+    }
+}
+
+// Whether a cell names only switches below v.
+fn switch_below(v: u32, cell: Cell) -> bool
+    ensures { λ r. ⌜ r ≡ switchBelow v cell ⌝ }
+{
+    match cell {
+        Cell::Off => true,
+        Cell::On => true,
+        Cell::Yes(x) => (x as u32) < v,
+        Cell::No(x) => (x as u32) < v,
+    }
+}
+
+// The place of a cell among the cells, row by row.
+fn place_of(s: SizeForm, row: u32, column: u32) -> usize
+    requires { ⌜ (row < 128) × (column < 128) × (s .columns ≤ 128) ⌝ }
+    ensures { λ r. ⌜ r ≡ row * s .columns + column ⌝ }
+{
+    (row * s.columns + column) as usize
+}
+
+// Ground 12, on a cell line, where the cells before it take up the first `count` places.
+fn cell_fault(s: SizeForm, count: usize, f: CellForm) -> u32
+    requires { ⌜ inRange (s .rows) (s .columns) (s .switches) (s .outputs) ≡ true ⌝ }
+    ensures { λ r. ⌜ ((codes : List ℕ) → length codes ≡ count → r ≡ cellFault (listed s codes []) (placedBy f)) ⌝ }
+{
+    if s.rows <= f.row {
+        return 12;
+    }
+    if s.columns <= f.column {
+        return 12;
+    }
+    if place_of(s, f.row, f.column) < count {
+        return 12;
+    }
+    let cell = f.cell;
+    if switch_below(s.switches, cell) {
+        0
+    } else {
+        12
+    }
+}
+
+// Grounds 3 and 12, on the output line due as number `j`.
+fn stand_fault(s: SizeForm, j: usize, f: OutForm) -> u32
+    ensures { λ r.
+        ⌜ ((codes stands : List ℕ)
+        → length stands ≡ j
+        → r ≡ standFault (listed s codes stands) (f .number) (f .target)) ⌝ }
+{
+    if f.number as usize != j {
+        return 3;
+    }
+    if f.target < s.rows { 0 } else { 12 }
+}
+
+// Stores a code at a place, if the buffer has it.
+fn store(cells: &mut [u8], place: usize, code: u8)
+    ensures { λ r. ⌜ now (cells .exit) ≡ set (now (cells .entry)) place code ⌝ }
+{
+    if place < cells.len() {
+        cells[place] = code;
+    }
+}
+
+// A refusal: zeros in the whole buffer, and 0 as every field of the record.
+fn refuse(refusal: Refusal, cells: &mut [u8]) -> Loaded
+    ensures { λ r. ⌜ Handed (refused (refusal .number) (refusal .line)) (length (now (cells .entry))) r (now (cells .exit)) ⌝ }
+{
+    common::clear(cells);
+    Loaded {
+        refusal,
+        head: Crossbar {
+            rows: 0,
+            columns: 0,
+            switches: 0,
+            outputs: 0,
+            outs: [0; MAX_OUTPUTS],
+        },
+    }
+}
+
+// Cell lines, as many as there are, from the position `at` on. The buffer is clear when they begin.
+fn load_cells(text: &[u8], at: usize, line: u32, s: SizeForm, cells: &mut [u8]) -> Reached
+    requires { ⌜ (inRange (s .rows) (s .columns) (s .switches) (s .outputs) ≡ true) × (line ≤ 65536) × (now cells ≡ zeros (length (now cells))) ⌝ }
+    ensures { λ r. ⌜ CellsTold (now (text .entry)) s at line (now (cells .exit)) (length (now (cells .entry))) r ⌝ }
+{
+    let mut next = at;
+    let mut number = line;
+    let mut count: usize = 0;
+    loop {
+        let Form::Cell(f) = forms::form_at(text, next, number) else {
+            return Reached::Line {
+                at: next,
+                line: number,
+            };
+        };
+        let fault = cell_fault(s, count, f);
+        if fault != 0 {
+            return Reached::Refused(Refusal {
+                number: fault,
+                line: number,
+            });
+        }
+        let place = place_of(s, f.row, f.column);
+        let cell = f.cell;
+        store(cells, place, cell.to_code() as u8);
+        count = place + 1;
+        next = figures::line_end(text, next) + 1;
+        number += 1;
+    }
+}
+
+// The answer for a line that is refused.
+fn no_outputs(number: u32, line: u32) -> Outputs
+    ensures { λ r. ⌜ r ≡ outputsOf (refused number line) ⌝ }
+{
+    Outputs {
+        ok: false,
+        refusal: Refusal { number, line },
+        outs: [0; MAX_OUTPUTS],
+    }
+}
+
+// `(end)`, and ground 10.
+fn load_end(text: &[u8], at: usize, line: u32, outs: [u16; MAX_OUTPUTS]) -> Outputs
+    requires { ⌜ line ≤ 131072 ⌝ }
+    ensures { λ r.
+        ⌜ ((x : Listed)
+        → padded maxOutputs (x .outs) ≡ outs
+        → r ≡ outputsOf (loadEnd x line (linesOf (drop at (now (text .entry)))))) ⌝ }
+{
+    let Form::End = forms::form_at(text, at, line) else {
+        return no_outputs(1, line);
+    };
+    if figures::line_end(text, at) + 1 < text.len() {
+        return no_outputs(10, line + 1);
+    }
+    Outputs {
+        ok: true,
+        refusal: Refusal { number: 0, line: 0 },
+        outs,
+    }
+}
+
+// The output lines, and the last line.
+fn load_outs(text: &[u8], at: usize, line: u32, s: SizeForm) -> Outputs
+    requires { ⌜ (inRange (s .rows) (s .columns) (s .switches) (s .outputs) ≡ true) × (line ≤ 100000) ⌝ }
+    ensures { λ r.
+        ⌜ ((codes : List ℕ)
+        → r ≡ outputsOf (loadOuts (s .outputs) (listed s codes []) line (linesOf (drop at (now (text .entry)))))) ⌝ }
+{
+    let mut outs = [0u16; MAX_OUTPUTS];
+    let mut next = at;
+    let mut number = line;
+    let mut j: usize = 0;
+    while j < s.outputs as usize {
+        let Form::Out(f) = forms::form_at(text, next, number) else {
+            return no_outputs(1, number);
+        };
+        let fault = stand_fault(s, j, f);
+        if fault != 0 {
+            return no_outputs(fault, number);
+        }
+        outs[j] = f.target as u16;
+        next = figures::line_end(text, next) + 1;
+        number += 1;
+        j += 1;
+    }
+    load_end(text, next, number, outs)
+}
+
+// The record and the cells, and ground 14. The buffer holds the cells as far as it has room.
+fn finish(s: SizeForm, outs: [u16; MAX_OUTPUTS], cells: &mut [u8]) -> Loaded
+    requires { ⌜ inRange (s .rows) (s .columns) (s .switches) (s .outputs) ≡ true ⌝ }
+    ensures { λ r.
+        ⌜ ((codes stands : List ℕ)
+        → now (cells .entry) ≡ kept (length (now (cells .entry))) codes
+        → length codes ≤ s .rows * s .columns
+        → padded maxOutputs stands ≡ outs
+        → Handed (fitted (length (now (cells .entry))) (listed s codes stands)) (length (now (cells .entry))) r (now (cells .exit))) ⌝ }
+{
+    let size = (s.rows * s.columns) as usize;
+    if cells.len() < size {
+        return refuse(
+            Refusal {
+                number: 14,
+                line: 0,
+            },
+            cells,
+        );
+    }
+    Loaded {
+        refusal: Refusal { number: 0, line: 0 },
+        head: Crossbar {
+            rows: s.rows as u16,
+            columns: s.columns as u16,
+            switches: s.switches as u16,
+            outputs: s.outputs as u16,
+            outs,
+        },
+    }
+}
+
+// The lines after the first. The buffer is clear when they begin.
+fn load_rest(text: &[u8], at: usize, line: u32, s: SizeForm, cells: &mut [u8]) -> Loaded
+    requires { ⌜ (inRange (s .rows) (s .columns) (s .switches) (s .outputs) ≡ true) × (line ≤ 65536) × (now cells ≡ zeros (length (now cells))) ⌝ }
+    ensures { λ r.
+        ⌜ Handed (loadCells (listed s [] []) line (linesOf (drop at (now (text .entry)))) then λ x. fitted (length (now (cells .entry))) x)
+        (length (now (cells .entry))) r (now (cells .exit)) ⌝ }
+{
+    match load_cells(text, at, line, s, cells) {
+        Reached::Refused(refusal) => refuse(refusal, cells),
+        Reached::Line {
+            at: next,
+            line: number,
+        } => {
+            let found = load_outs(text, next, number, s);
+            let refusal = found.refusal;
+            let outs = found.outs;
+            if found.ok {
+                finish(s, outs, cells)
+            } else {
+                refuse(refusal, cells)
+            }
+        },
+    }
+}
+
+// A listing that starts at the position `at` of a text, on line number `line`, loaded into a buffer of cells.
+pub fn load_from(text: &[u8], at: usize, line: u32, cells: &mut [u8]) -> Loaded
+    requires { ⌜ line < 65536 ⌝ }
+    ensures { λ r.
+        ⌜ Handed (loadAt line (linesOf (drop at (now (text .entry)))) (length (now (cells .entry)))) (length (now (cells .entry))) r
+        (now (cells .exit)) ⌝ }
+{
+    let Form::Size(s) = forms::form_at(text, at, line) else {
+        return refuse(Refusal { number: 1, line }, cells);
+    };
+    let fault = size_fault(s);
+    if fault != 0 {
+        return refuse(
+            Refusal {
+                number: fault,
+                line,
+            },
+            cells,
+        );
+    }
+    common::clear(cells);
+    load_rest(text, figures::line_end(text, at) + 1, line + 1, s, cells)
+}
+
+// Listing text and an output buffer in, record and cells out.
+pub fn load(text: &[u8], cells: &mut [u8]) -> Loaded
+    ensures { λ r.
+        ⌜ Handed (load (now (text .entry)) (length (now (cells .entry)))) (length (now (cells .entry))) r (now (cells .exit)) ⌝ }
+{
+    load_from(text, 0, 1, cells)
+}
