@@ -23,7 +23,7 @@ use Rattle.placement.proofs.Sentences.{childAt, IsEdge}
 use Rattle.placement.proofs.Labels.{stored-ids, same-label, same-own, same-edge, same-row, same-rows, same-width}
 use Rattle.placement.proofs.Heads.{head-is}
 use Rattle.placement.proofs.Filled.{Filled, Partly, Stored, partly-zeros, all-filled, all-stored}
-use Rattle.placement.proofs.Mapped.{Whose, of-label, of-edge, target-long, label-in, edge-in, whose}
+use Rattle.placement.proofs.Wanted.{Whose, of-label, of-edge, target-long, label-in, edge-in, whose}
 
 -- the array of the high children, or of the low ones
 abbrev pub sideOf : List ℕ → List ℕ → Bool → List ℕ

@@ -9,5 +9,6 @@ pub mod Labels
 pub mod Edges
 pub mod Heads
 pub mod Filled
-pub mod Mapped
+pub mod Wanted
 pub mod Arrays
+pub mod Maps

@@ -2,10 +2,12 @@
 pub mod numbers; // numbers.rt: the numbers of the wires, by id
 pub mod stores; // stores.rt: the cells, stored one after another
 pub mod record; // record.rt: the record of a crossbar
+pub mod mapping; // mapping.rt: the call map
 
 use cells::Crossbar;
 use common::MAX_NODES;
 use common::MAX_OUTPUTS;
+use common::Refusal;
 use numbers::number_wires;
 use record::head_of;
 use stores::all_cells;
@@ -17,6 +19,12 @@ ghost use Rattle.cells.specs.Record.{size};
 ghost use Rattle.diagram.specs.Stored.{stored};
 ghost use Rattle.diagram.proofs.Facts.{Facts, Sizes};
 ghost use Rattle.placement.specs.Placement as placement;
+
+// Map's answer: the refusal, and the record, zeros after a refusal.
+pub struct Mapped {
+    pub refusal: Refusal,
+    pub head: Crossbar,
+}
 
 // Document 01, "Placement": the cells and the record of a job that breaks none of grounds 1 to 11, into a buffer long enough. The job
 // has v switches, terminal 1 labelled one, n nodes and k outputs.
