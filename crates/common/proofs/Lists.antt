@@ -237,3 +237,18 @@ padded-more p s h =
 pub padded-full : (p : ℕ) (s : List ℕ) → length s ≡ p → padded p s ≡ s
 unfolding padded
 padded-full p s h = let e : p - length s ≡ 0 = omega arith in rw e (append-nil s)
+
+-- padding does not change what stands at a place, 0 past the end
+getD-zeros-at : (k i : ℕ) → getD (zeros k) i 0 ≡ 0
+getD-zeros-at zero i = refl
+getD-zeros-at (suc k) zero = refl
+getD-zeros-at (suc k) (suc i) = getD-zeros-at k i
+
+getD-before-zeros : (s : List ℕ) (k i : ℕ) → getD (s ++ zeros k) i 0 ≡ getD s i 0
+getD-before-zeros [] k i = getD-zeros-at k i
+getD-before-zeros (a ∷ s) k zero = refl
+getD-before-zeros (a ∷ s) k (suc i) = getD-before-zeros s k i
+
+pub getD-padded-any : (n : ℕ) (s : List ℕ) (i : ℕ) → getD (padded n s) i 0 ≡ getD s i 0
+unfolding padded
+getD-padded-any n s i = getD-before-zeros s (n - length s) i

@@ -5,3 +5,4 @@ pub mod Template
 pub mod Lines
 pub mod Parts
 pub mod Items
+pub mod Filling
