@@ -24,9 +24,10 @@ use Rattle.agreement.proofs.Demand3.{demand-3}
 
 -- what answers one statement answers an equivalent one
 answers-same : (b : ℕ) (P Q : Type 0) → P ↔ Q → Answers b P → Answers b Q
-answers-same b P Q e a =
-    ( Iff·trans (a .0) e
-    , ( (λ z q. a .1 .0 z (e .1 q)), (λ never. a .1 .1 (λ p. never (e .0 p))) ) )
+answers-same b P Q e a = (
+  Iff·trans (a .0) e,
+  ((λ z q. a .1 .0 z (e .1 q)), (λ never. a .1 .1 (λ p. never (e .0 p)))),
+)
 
 module _
     (text before cells : List ℕ)
@@ -39,59 +40,61 @@ module _
     (taken : accepted text ≡ done d)
     (ran : Ran text before cells m setting dark wires l j v)
   where
-  abbrev pub claim : Demand3 text d
-  claim = demand-3 text d taken
+    abbrev pub claim : Demand3 text d
+    claim = demand-3 text d taken
 
-  pub calls-agree :
-      size (claim .whole .head) ≤ length before
-      → claim .whole .head .rows + claim .whole .head .columns ≤ length dark
-      → isSetting (d .switches) setting ≡ true
-      → j < length (d .outs)
-      → CallsAgree text before cells d m setting dark wires l j v
-  unfolding mapped lighted walked refusalOf numberOf lineOf valueOf bufferOf
-  calls-agree room wire-room set below =
-      let w = claim .whole in
-      let m-is : m ≡ record { refusal = record { number = 0; line = 0 }; head = w .head } =
+    pub calls-agree :
+        size (claim .whole .head) ≤ length before
+        → claim .whole .head .rows + claim .whole .head .columns ≤ length dark
+        → isSetting (d .switches) setting ≡ true
+        → j < length (d .outs)
+        → CallsAgree text before cells d m setting dark wires l j v
+    unfolding mapped lighted walked refusalOf numberOf lineOf valueOf bufferOf
+    calls-agree room wire-room set below =
+        let w = claim .whole in
+        let m-is : m ≡ record { refusal = record { number = 0; line = 0 }; head = w .head } =
         ran .map-kept .answer ∙ ap mapped (claim .maps (length before) room) in
-      let cells-are : cells ≡ padded (length before) (w .codes) =
+        let cells-are : cells ≡ padded (length before) (w .codes) =
         ran .map-kept .cells ∙ ap (bufferOf (length before) (λ (x : Whole). x .codes)) (claim .maps (length before) room) in
-      let head-is : m .head ≡ w .head = ap (λ (x : Mapped). x .head) m-is in
-      let runs = claim .lights setting (length before) (length dark) room set wire-room in
-      let a = runs .0 in
-      let light-is : light (m .head) cells setting (length dark) ≡ done a = rw (head-is, cells-are) (runs .1) in
-      let l-is : l ≡ record { refusal = record { number = 0; line = 0 }; rounds = a .count } =
+        let head-is : m .head ≡ w .head = ap (λ (x : Mapped). x .head) m-is in
+        let runs = claim .lights setting (length before) (length dark) room set wire-room in
+        let a = runs .0 in
+        let light-is : light (m .head) cells setting (length dark) ≡ done a = rw (head-is, cells-are) (runs .1) in
+        let l-is : l ≡ record { refusal = record { number = 0; line = 0 }; rounds = a .count } =
         ran .light-kept .answer ∙ ap lighted light-is in
-      let wires-are : wires ≡ padded (length dark) (a .wires) =
+        let wires-are : wires ≡ padded (length dark) (a .wires) =
         ran .light-kept .bytes ∙ ap (bufferOf (length dark) (λ (x : Lit). x .wires)) light-is in
-      let walking = claim .walks setting j set below in
-      let v-is : v ≡ record { refusal = record { number = 0; line = 0 }; value = walking .0 } =
+        let walking = claim .walks setting j set below in
+        let v-is : v ≡ record { refusal = record { number = 0; line = 0 }; value = walking .0 } =
         ran .walk-kept ∙ ap walked (walking .1) in
-      let read = claim .reading setting j set below in
-      let row-byte : getD wires (getD (m .head .outs) j 0) 0 ≡ getD (a .wires) (standsOn w j) 0 =
+        let read = claim .reading setting j set below in
+        let row-byte : getD wires (getD (m .head .outs) j 0) 0 ≡ getD (a .wires) (standsOn w j) 0 =
         rw (wires-are, head-is) (getD-padded-any (length dark) (a .wires) (standsOn w j)) in
-      record
-      { mapped-all = ap (λ (x : Mapped). x .refusal .number) m-is
-      ; lit-all = ap (λ (x : Lighted). x .refusal .number) l-is
-      ; walked-all = ap (λ (x : Walked). x .refusal .number) v-is
-      ; shown =
-          rw row-byte
-          (answers-same (getD (a .wires) (standsOn w j) 0) (Reads w setting j) (WalksToOne d setting j) read
-          (claim .shown setting (length before) (length dark) a j room (runs .1) below))
-      ; walk-shown =
-          rw (ap (λ (x : Walked). x .value) v-is)
-          (answers-same (walking .0) (Reads w setting j) (WalksToOne d setting j) read (claim .walked setting j (walking .0) (walking .1)))
-      ; one-row = λ i within. rw head-is (walks-row i within) }
-    where
-      walks-row :
-          (i : ℕ)
-          → i < length (d .outs)
-          → ((other : List ℕ) → isSetting (d .switches) other ≡ true → WalksToOne d other i ↔ WalksToOne d other j)
-          ↔ (standsOn (claim .whole) i ≡ standsOn (claim .whole) j)
-      walks-row i within =
-          let rows = claim .one-row i j within below in
-          ( (λ agree.
-            rows .0
-            (λ other s.
-            Iff·trans (claim .reading other i s within) (Iff·trans (agree other s) (Iff·symm (claim .reading other j s below)))))
-          , (λ same other s.
-            Iff·trans (Iff·symm (claim .reading other i s within)) (Iff·trans (rows .1 same other s) (claim .reading other j s below))) )
+        record {
+          mapped-all = ap (λ (x : Mapped). x .refusal .number) m-is;
+          lit-all = ap (λ (x : Lighted). x .refusal .number) l-is;
+          walked-all = ap (λ (x : Walked). x .refusal .number) v-is;
+          shown =
+              rw row-byte
+              (answers-same (getD (a .wires) (standsOn w j) 0) (Reads w setting j) (WalksToOne d setting j) read
+              (claim .shown setting (length before) (length dark) a j room (runs .1) below));
+          walk-shown =
+              rw (ap (λ (x : Walked). x .value) v-is)
+              (answers-same (walking .0) (Reads w setting j) (WalksToOne d setting j) read (claim .walked setting j (walking .0) (walking .1)));
+          one-row = λ i within. rw head-is (walks-row i within);
+        }
+      where
+        walks-row :
+            (i : ℕ)
+            → i < length (d .outs)
+            → ((other : List ℕ) → isSetting (d .switches) other ≡ true → WalksToOne d other i ↔ WalksToOne d other j)
+            ↔ (standsOn (claim .whole) i ≡ standsOn (claim .whole) j)
+        walks-row i within =
+            let rows = claim .one-row i j within below in (
+              (λ agree.
+                  rows .0
+                  (λ other s.
+                  Iff·trans (claim .reading other i s within) (Iff·trans (agree other s) (Iff·symm (claim .reading other j s below))))),
+              (λ same other s.
+                  Iff·trans (Iff·symm (claim .reading other i s within)) (Iff·trans (rows .1 same other s) (claim .reading other j s below))),
+            )

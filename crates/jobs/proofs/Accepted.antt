@@ -34,7 +34,7 @@ record Grown (d e : Diagram) (m k : ℕ) : Type 0 where
   nodes : length (e .nodes) ≡ length (d .nodes) + m
   outs : length (e .outs) ≡ length (d .outs) + k
 
-read-end : (d : Diagram) (n : ℕ) (ls : Lines) (t : Text) → readEnd d n ls ≡ done t → t .diagram ≡ d
+pub read-end : (d : Diagram) (n : ℕ) (ls : Lines) (t : Text) → readEnd d n ls ≡ done t → t .diagram ≡ d
 unfolding readEnd
 read-end d n ls t h =
     let taken = then-done (due endForm n ls) _ t h in

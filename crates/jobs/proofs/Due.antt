@@ -3,20 +3,20 @@
 use Prim.Native.Nat.{ℕ, zero, suc, _+_, _≤_, _<_}
 use mathlib.Core.Path.{_≡_, refl, sym, ap, _∙_}
 use mathlib.Core.Logic.{⊎-elim}
-use mathlib.Core.Bool.{true, false, not, _&&_}
+use mathlib.Core.Bool.{true, false, _&&_}
 use mathlib.Core.Option.{some, none}
 use mathlib.Core.List.{List, [], _∷_}
 use native.Mathlib.Omega.{arith}
 use lib.ListN.{length, getD, drop, drop-of-length-le}
 use lib.Seq.{drop-cons}
 use lib.Dec.{eqb, ltb}
-use borrow.Author.Tests.{ltb-true, eqb-true, not-false, lt-ltb, le-ltb}
+use borrow.Author.Tests.{ltb-true, eqb-true, not-false}
 use Rattle.common.specs.Limits.{maxSwitches, maxNodes, maxOutputs}
 use Rattle.common.specs.Outcome.{Outcome, done, refused, _then_, _when_, lowest, unless}
 use Rattle.common.proofs.Lists.{and-left, and-right, by-test}
 use Rattle.common.proofs.Outcome.{then-is, unless-none, not-met, others}
 use Rattle.figures.specs.Line.{Lines, left, _⏎_, linesOf, afterFirst, follows, lineEnd, onto}
-use Rattle.figures.proofs.Ends.{line-ended, line-left}
+use Rattle.figures.proofs.Ends.{line-left}
 use Rattle.forms.specs.declared.Form.{Form}
 use Rattle.forms.specs.declared.Form.the-variants as form
 use Rattle.forms.specs.declared.JobForm.{JobForm}
@@ -24,7 +24,7 @@ use Rattle.forms.specs.declared.NodeForm.{NodeForm}
 use Rattle.forms.specs.declared.OutForm.{OutForm}
 use Rattle.forms.specs.Forms.{jobForm, oneForm, nodeForm, outForm, endForm}
 use Rattle.forms.specs.Form.{formIn, asJob, asOne, asNode, asOut, asEnd, ofKind, kindOf, valuesIn}
-use Rattle.forms.specs.Due.{Taken, due}
+use Rattle.forms.specs.Due.{due}
 use Rattle.forms.proofs.Lines.{due-job, no-job, due-one, no-one, due-node, no-node, due-out, no-out, due-end, no-end, lines-after}
 use Rattle.diagram.specs.declared.Node.{Node}
 use Rattle.diagram.specs.Diagram.{Diagram, bare, withNode, withOut, idCount}

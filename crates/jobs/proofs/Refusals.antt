@@ -2,15 +2,15 @@
 use Prim.Native.Nat.{ℕ, zero, suc, _+_}
 use mathlib.Core.Path.{_≡_, refl, ap}
 use mathlib.Core.Option.{Option, some, none}
-use mathlib.Core.List.{List, [], _∷_}
+use mathlib.Core.List.{List}
 use native.Mathlib.Omega.{arith}
-use Rattle.common.specs.Outcome.{Outcome, done, refused, _then_, _when_, lowest, unless, numberOf}
+use Rattle.common.specs.Outcome.{Outcome, done, refused, _then_, unless, numberOf}
 use Rattle.figures.specs.Line.{Lines, left, _⏎_, linesOf}
 use Rattle.forms.specs.Template.{Template, values}
 use Rattle.forms.specs.Due.{Taken, due}
 use Rattle.forms.specs.Forms.{jobForm, oneForm, nodeForm, outForm, endForm}
 use Rattle.diagram.specs.Diagram.{Diagram}
-use Rattle.jobs.specs.Reading.{Text, readEnd, readOuts, readNodes, readOne, readHead, readText}
+use Rattle.jobs.specs.Reading.{readEnd, readOuts, readNodes, readOne, readHead, readText}
 use Rattle.jobs.specs.Job.{accepted}
 
 -- not refused with number 0

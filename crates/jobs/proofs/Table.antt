@@ -4,11 +4,11 @@ use mathlib.Core.Path.{_≡_, refl, sym, ap, _∙_}
 use mathlib.Core.Logic.{⊎-elim}
 use mathlib.Core.List.{List, [], _∷_, _++_, map}
 use native.Mathlib.Omega.{arith}
-use lib.ListN.{length, getD, take, drop, replicate, length-append, length-replicate, length-map, List·getD-map, List·getD-eq-default, List·getD-append}
+use lib.ListN.{length, getD, take, replicate, length-append, length-replicate, length-map, List·getD-map, List·getD-eq-default}
 use lib.Seq.{ext-getD, getD-take, length-take-le}
-use Rattle.common.specs.Limits.{maxNodes, maxOutputs}
+use Rattle.common.specs.Limits.{maxNodes}
 use Rattle.common.specs.Lists.{zeros, padded, tab}
-use Rattle.common.specs.Outcome.{Outcome, done, refused, valueOf}
+use Rattle.common.specs.Outcome.{done, refused, valueOf}
 use Rattle.common.proofs.Lists.{below-or-not, length-tab, getD-tab}
 use Rattle.diagram.specs.declared.Node.{Node}
 use Rattle.diagram.specs.Diagram.{Diagram, no-node}

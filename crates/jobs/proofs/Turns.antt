@@ -1,36 +1,24 @@
 -- The lines in turn: what the reader has said of the reading when it comes to a line, and one line more. Assumes nothing.
 use Prim.Native.Nat.{ℕ, zero, suc, _+_, _-_, _≤_, _<_}
-use mathlib.Core.Path.{_≡_, refl, sym, ap, _∙_}
-use mathlib.Core.List.{List, [], _∷_}
+use mathlib.Core.Path.{_≡_, refl, ap, _∙_}
+use mathlib.Core.List.{List, []}
 use native.Mathlib.Omega.{arith}
-use lib.ListN.{length, getD, take, drop, set, replicate, length-set, length-replicate}
+use lib.ListN.{length, getD, take, drop, set, length-set, length-replicate}
 use lib.Seq.{getD-set-other, length-take-le}
 use Rattle.common.specs.Limits.{maxNodes, maxOutputs}
 use Rattle.common.specs.Lists.{zeros}
-use Rattle.common.specs.Outcome.{Outcome, unless}
-use Rattle.common.specs.declared.Refusal.{Refusal}
+use Rattle.common.specs.Outcome.{unless}
 use Rattle.common.proofs.Outcome.{unless-none}
 use Rattle.figures.specs.Line.{linesOf}
-use Rattle.diagram.specs.Diagram.{Diagram, bare, withNode, withOut}
+use Rattle.diagram.specs.Diagram.{bare, withNode, withOut}
 use Rattle.diagram.specs.Stored.{stored}
 use Rattle.diagram.proofs.Stored.{stored-bare, stored-node, stored-out-set}
 use Rattle.jobs.specs.declared.HeadLine.{HeadLine}
 use Rattle.jobs.specs.declared.OneLine.{OneLine}
 use Rattle.jobs.specs.declared.NodeLine.{NodeLine}
 use Rattle.jobs.specs.declared.OutLine.{OutLine}
-use Rattle.jobs.specs.Reading.{Text, readOuts, readNodes, readOne, readText}
-use Rattle.jobs.specs.Steps.{
-  Sized,
-  HeadStep,
-  OneStep,
-  OpeningStep,
-  NodeStep,
-  OutStep,
-  Clear,
-  AllClear,
-  NodesStep,
-  OutsStep,
-}
+use Rattle.jobs.specs.Reading.{readOuts, readNodes}
+use Rattle.jobs.specs.Steps.{HeadStep, OneStep, OpeningStep, NodeStep, OutStep, Clear, AllClear, NodesStep, OutsStep}
 use Rattle.jobs.proofs.Due.{stops, no-sizes}
 
 -- the first two lines

@@ -2,14 +2,15 @@
 -- which it stops.
 use Prim.Native.Nat.{ℕ, suc, _+_, _≤_}
 use mathlib.Core.Path.{_≡_}
-use mathlib.Core.List.{List, []}
+use mathlib.Core.List.{List, [], _∷_}
 use lib.ListN.{length, getD, take, drop}
 use Rattle.common.specs.Limits.{maxSwitches, maxNodes, maxOutputs}
-use Rattle.common.specs.Outcome.{Outcome, done, unless}
+use Rattle.common.specs.Outcome.{Outcome, done, _then_, _when_, lowest, unless}
 use Rattle.common.specs.declared.Refusal.{Refusal}
 use Rattle.figures.specs.Line.{linesOf}
 use Rattle.diagram.specs.Diagram.{Diagram, bare, withNode, withOut}
 use Rattle.diagram.specs.Stored.{stored}
+use Rattle.diagram.specs.Wires.{tooLarge}
 use Rattle.jobs.specs.declared.HeadLine.{HeadLine}
 use Rattle.jobs.specs.declared.OneLine.{OneLine}
 use Rattle.jobs.specs.declared.NodeLine.{NodeLine}
@@ -99,6 +100,23 @@ pub record OutsStep (s : List ℕ) (at v one n k : ℕ) (xs ls hs ts : List ℕ)
 -- after the line of `(end)`
 pub record EndStep (s : List ℕ) (at n : ℕ) (r : Refusal) : Type 0 where
   pub goes-on : (d : Diagram) → readEnd d n (linesOf (drop at s)) ≡ unlessRefused r (done (record { diagram = d; last = n }))
+
+-- ground 11, on a text that was read: "R or C exceeds 128; the line is that of `(end)`"
+unfoldable pub sizeTested : Outcome Text → Outcome Diagram
+sizeTested o = o then λ t. unless (lowest ((11 when tooLarge (t .diagram)) ∷ [])) (t .last) (done (t .diagram))
+
+-- the first two lines and the outputs of a job whose nodes the arrays hold: its diagram, and the line due for `(end)`
+unfoldable pub outlined : Opening → OutsRead → List ℕ → List ℕ → List ℕ → List ℕ → Diagram
+outlined o outs xs ls hs ts = stored (o .switches) (o .one) (o .nodes) xs ls hs ts (take (o .outputs) (outs .outs))
+
+unfoldable pub endLine : Opening → ℕ
+endLine o = 3 + o .nodes + o .outputs
+
+-- the outputs fill their array up to K, and zeros stand past them
+pub record Listed (o : Opening) (outs : OutsRead) : Type 0 where
+  pub sized : Sized (o .switches) (o .nodes) (o .outputs)
+  pub entries : length (outs .outs) ≡ maxOutputs
+  pub past : (i : ℕ) → o .outputs ≤ i → getD (outs .outs) i 0 ≡ 0
 
 -- after all lines, and grounds 10 and 11: the answer, and the table of a job that is accepted
 pub record LinesRead (s xs ls hs ts : List ℕ) (r : JobRead) : Type 0 where

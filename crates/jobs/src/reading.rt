@@ -12,12 +12,14 @@ use diagram::counts;
 ghost use mathlib.Core.Path.{_≡_};
 ghost use mathlib.Core.List.{List};
 ghost use Prim.Native.Nat.{ℕ, _≤_};
+ghost use lib.ListN.{drop};
 ghost use Rattle.common.specs.Limits.{maxNodes, maxOutputs};
 ghost use Rattle.common.specs.Lists.{zeros};
-ghost use Rattle.common.specs.Outcome.{refused};
+ghost use Rattle.figures.specs.Line.{linesOf};
 ghost use Rattle.jobs.specs.Answer.{noJob, jobRead, Holds};
 ghost use Rattle.jobs.specs.Job.{accepted, table};
-ghost use Rattle.jobs.specs.Steps.{OpeningStep, NodesStep, OutsStep, LinesRead};
+ghost use Rattle.jobs.specs.Reading.{readEnd};
+ghost use Rattle.jobs.specs.Steps.{OpeningStep, NodesStep, OutsStep, Listed, sizeTested, outlined, endLine, LinesRead};
 
 // The node table with zeros in every entry.
 pub fn clear_table(
@@ -158,7 +160,40 @@ pub fn no_job(refusal: Refusal) -> JobRead
     }
 }
 
-// All lines, then ground 10 and ground 11. After a refusal the table may hold entries.
+// The line `(end)`, then ground 10 and ground 11: the answer for a job whose nodes are in the table and whose outputs are read.
+pub fn finish(text: &[u8], ts: &[u16; MAX_NODES], o: Opening, outs: OutsRead) -> JobRead
+    requires { ⌜ Listed o outs ⌝ }
+    ensures { λ r.
+        ⌜ ((xs ls hs : List ℕ)
+        → r ≡ jobRead (sizeTested (readEnd (outlined o outs xs ls hs (now (ts .entry))) (endLine o) (linesOf (drop (outs .next) (now (text .entry))))))) ⌝ }
+{
+    let n = o.nodes as usize;
+    let k = o.outputs as usize;
+    let last = 3 + n as u32 + k as u32;
+    let end = lines::end_line(text, outs.next, last);
+    if end.number != 0 {
+        return no_job(end);
+    }
+    let ids = outs.outs;
+    if counts::too_large(ts, &ids, o.one, n, k) {
+        return no_job(Refusal {
+            number: 11,
+            line: last,
+        });
+    }
+    JobRead {
+        refusal: Refusal { number: 0, line: 0 },
+        job: Job {
+            switches: o.switches,
+            one: o.one,
+            nodes: o.nodes,
+            outputs: o.outputs,
+            outs: ids,
+        },
+    }
+}
+
+// All lines in turn. After a refusal the table may hold entries.
 pub fn read_lines(
     text: &[u8],
     xs: &mut [u16; MAX_NODES],
@@ -185,28 +220,7 @@ pub fn read_lines(
     if out.number != 0 {
         return no_job(out);
     }
-    let last = 3 + n as u32 + k as u32;
-    let end = lines::end_line(text, outs.next, last);
-    if end.number != 0 {
-        return no_job(end);
-    }
-    let ids = outs.outs;
-    if counts::too_large(ts, &ids, o.one, n, k) {
-        return no_job(Refusal {
-            number: 11,
-            line: last,
-        });
-    }
-    JobRead {
-        refusal: Refusal { number: 0, line: 0 },
-        job: Job {
-            switches: o.switches,
-            one: o.one,
-            nodes: o.nodes,
-            outputs: o.outputs,
-            outs: ids,
-        },
-    }
+    finish(text, ts, o, outs)
 }
 
 // Document 01, "Job text": reads a job. "entries without a line are zeros, and after a refusal it holds zeros only."

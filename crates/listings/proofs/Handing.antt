@@ -1,20 +1,19 @@
 -- What load hands over, by the step at which it stops or comes to its end. Assumes nothing.
-use Prim.Native.Nat.{ℕ, zero, suc, _+_, _*_, _≤_, _<_}
+use Prim.Native.Nat.{ℕ, _+_, _*_, _≤_, _<_}
 use mathlib.Core.Path.{_≡_, refl, sym, ap, _∙_}
-use mathlib.Core.Bool.{Bool, true, false, not}
+use mathlib.Core.Bool.{true, false, not}
 use mathlib.Core.Option.{some, none}
 use mathlib.Core.List.{List, [], _∷_}
-use native.Mathlib.Omega.{arith}
 use lib.ListN.{length, drop}
 use borrow.Author.Tests.{lt-ltb, le-ltb, not-false}
 use Rattle.common.specs.declared.Refusal.{Refusal}
 use Rattle.common.specs.Limits.{maxOutputs}
-use Rattle.common.specs.Lists.{zeros, padded}
+use Rattle.common.specs.Lists.{padded}
 use Rattle.common.specs.Outcome.{Outcome, done, refused, _then_, lowest, unless, refusalOf, numberOf, lineOf, valueOf, bufferOf}
 use Rattle.common.proofs.Lists.{true-or-false}
-use Rattle.common.proofs.Outcome.{then-is, unless-none, not-met}
-use Rattle.figures.specs.Line.{Lines, linesOf, afterFirst, lineEnd}
-use Rattle.cells.specs.Record.{Whole, size, inRange}
+use Rattle.common.proofs.Outcome.{unless-none, not-met}
+use Rattle.figures.specs.Line.{Lines, linesOf, lineEnd}
+use Rattle.cells.specs.Record.{Whole, size}
 use Rattle.forms.specs.declared.SizeForm.{SizeForm}
 use Rattle.forms.specs.declared.Form.the-variants as form
 use Rattle.forms.specs.Form.{formIn, notDue, kindOf, valuesIn, ofKind, asSize}
@@ -23,8 +22,8 @@ use Rattle.listings.specs.declared.loading.Loaded.{Loaded}
 use Rattle.listings.specs.declared.loading.Outputs.{Outputs}
 use Rattle.listings.specs.declared.loading.Reached.{Reached}
 use Rattle.listings.specs.declared.loading.Reached.the-variants as reached
-use Rattle.listings.specs.Loading.{Listed, sized, sizeFault, loadOuts, loadCells, loadFrom, recordOf, cellsOf, fitted, loadAt}
-use Rattle.listings.specs.Loader.{loadedOf, Handed, listed, outputsOf, kept, CellsRead, CellsTold}
+use Rattle.listings.specs.Loading.{Listed, sized, sizeFault, loadOuts, loadCells, loadFrom, recordOf, cellsOf, fitted}
+use Rattle.listings.specs.Loader.{loadedOf, Handed, listed, sizesIn, outputsOf, kept, CellsRead, CellsReached}
 use Rattle.listings.proofs.Kept.{kept-padded}
 use Rattle.listings.proofs.Loaded.{outs-told}
 use Rattle.listings.proofs.Steps.{line-here, unless-some}
@@ -89,18 +88,18 @@ module _ (s : SizeForm) (codes stands : List ℕ) (room : ℕ) where
 -- what the answers of the readers say
 pub cells-line :
     {text : List ℕ} {s : SizeForm} {at n : ℕ} {cells : List ℕ} {room : ℕ} {r : Reached} {next m : ℕ}
-    → CellsTold text s at n cells room r
+    → CellsReached text s at n cells room r
     → r ≡ reached.Line next m
     → CellsRead text s at n next m cells room
-unfolding CellsTold
+unfolding CellsReached
 cells-line h e = rw e at h
 
 pub cells-refused :
     (text : List ℕ) (s : SizeForm) (at n : ℕ) (cells : List ℕ) (room : ℕ) (r : Reached) (q : Refusal)
-    → CellsTold text s at n cells room r
+    → CellsReached text s at n cells room r
     → r ≡ reached.Refused q
     → loadCells (listed s [] []) n (linesOf (drop at text)) ≡ refused (q .number) (q .line)
-unfolding CellsTold
+unfolding CellsReached
 cells-refused text s at n cells room r q h e = rw e at h
 
 outputs-done :
@@ -140,9 +139,9 @@ pub first-missing : (n : ℕ) (ls : Lines) → asSize (formIn ls n) ≡ none →
 unfolding loadFrom _then_
 first-missing n ls h = rw (no-size ls n h)
 
-pub size-right : (s : SizeForm) → sizeFault (listed s [] []) ≡ 0 → inRange (s .rows) (s .columns) (s .switches) (s .outputs) ≡ true
+pub size-right : (s : SizeForm) → sizeFault (listed s [] []) ≡ 0 → sizesIn s ≡ true
 unfolding sizeFault
-size-right s h = not-false _ (not-met 1 (not (inRange (s .rows) (s .columns) (s .switches) (s .outputs))) [] h)
+size-right s h = not-false _ (not-met 1 (not (sizesIn s)) [] h)
 
 module _ (text : List ℕ) (at n : ℕ) (s : SizeForm) (e : formIn (linesOf (drop at text)) n ≡ form.Size s) where
   named : asSize (formIn (linesOf (drop at text)) n) ≡ some (s .rows ∷ s .columns ∷ s .switches ∷ s .outputs ∷ [])

@@ -7,7 +7,6 @@ use mathlib.Core.List.{List, [], _∷_, _++_, append-assoc}
 use native.Mathlib.Omega.{arith}
 use lib.ListN.{length, take, set, length-append, length-replicate, replicate-append-replicate}
 use lib.Seq.{length-take-le, take-all, take-append-le, take-set-lt, set-at, set-out, append-snoc}
-use Rattle.common.specs.Limits.{maxOutputs}
 use Rattle.common.specs.Lists.{zeros, padded}
 use Rattle.common.proofs.Lists.{below-or-not, length-padded}
 use Rattle.listings.specs.Loader.{kept}

@@ -1,31 +1,29 @@
 -- The reader of cell lines between two lines: what it has read so far, and how a line takes it further. Assumes nothing.
 use Prim.Native.Nat.{ℕ, suc, _+_, _*_, _≤_, _<_}
-use mathlib.Core.Path.{_≡_, refl, sym, ap, _∙_}
-use mathlib.Core.Option.{Option, some, none}
+use mathlib.Core.Path.{_≡_, refl, ap, _∙_}
+use mathlib.Core.Option.{some, none}
 use mathlib.Core.List.{List, [], _∷_, _++_}
 use native.Mathlib.Omega.{arith}
-use native.Mathlib.Numerals.{add-one}
 use native.Mathlib.Nat.{mul-le-mul-right}
 use lib.ListN.{length, drop, set}
-use Rattle.common.specs.Limits.{maxSwitches}
+use Rattle.common.specs.Limits.{maxRows, maxColumns, maxSwitches}
 use Rattle.common.specs.Lists.{zeros, padded}
-use Rattle.common.specs.Outcome.{refused, unless}
+use Rattle.common.specs.Outcome.{unless}
 use Rattle.common.proofs.Outcome.{unless-none}
-use Rattle.figures.specs.Line.{linesOf, afterFirst, lineEnd}
+use Rattle.figures.specs.Line.{linesOf, lineEnd}
 use Rattle.cells.specs.Code.{codeOf}
 use Rattle.forms.specs.declared.SizeForm.{SizeForm}
 use Rattle.forms.specs.declared.CellForm.{CellForm}
-use Rattle.forms.specs.declared.Form.{Form}
 use Rattle.forms.specs.declared.Form.the-variants as form
 use Rattle.forms.specs.Form.{formIn, notDue, asCell}
 use Rattle.forms.proofs.Lines.{lines-after}
 use Rattle.listings.specs.declared.loading.Reached.the-variants as reached
-use Rattle.listings.specs.Loading.{Listed, cellFault, withCell, loadOuts, loadCells}
-use Rattle.listings.specs.Loader.{listed, placedBy, kept, CellsRead, CellsTold}
+use Rattle.listings.specs.Loading.{cellFault, withCell, loadCells}
+use Rattle.listings.specs.Loader.{listed, placedBy, kept, CellsReached}
 use Rattle.listings.proofs.Cells.{below-code}
-use Rattle.listings.proofs.Loaded.{CellFacts, cell-facts, length-with}
+use Rattle.listings.proofs.Loaded.{cell-facts, length-with}
 use Rattle.listings.proofs.Kept.{length-kept, kept-none, kept-set}
-use Rattle.listings.proofs.Steps.{line-here, unless-some, cell-line, other-line, Small}
+use Rattle.listings.proofs.Steps.{line-here, unless-some, cell-line, other-line, Ranged}
 
 -- cell lines from the position at, line n, on, with the next line at the position next, line m, and the cells before it in the first
 -- count places
@@ -51,15 +49,15 @@ going-start text s at n cells clear =
 
 -- a cell line without a fault
 pub record Right (s : SizeForm) (count : ℕ) (f : CellForm) : Type 0 where
-  pub row-small : f .row < 128
-  pub column-small : f .column < 128
+  pub row-small : f .row < maxRows
+  pub column-small : f .column < maxColumns
   pub later : count ≤ f .row * s .columns + f .column
   pub inside : f .row * s .columns + f .column < s .rows * s .columns
   pub code-small : codeOf (f .cell) < 256
 
 pub right :
     (s : SizeForm) (codes : List ℕ) (count : ℕ) (f : CellForm)
-    → Small s
+    → Ranged s
     → length codes ≡ count
     → cellFault (listed s codes []) (placedBy f) ≡ 0
     → Right s count f
@@ -75,13 +73,13 @@ right s codes count f z e h =
       code-small = omega arith;
     }
 
-module _ {text : List ℕ} {s : SizeForm} {at n room : ℕ} {cells : List ℕ} {next m count : ℕ} (g : Going text s at n room cells next m count) (z : Small s) where
+module _ {text : List ℕ} {s : SizeForm} {at n room : ℕ} {cells : List ℕ} {next m count : ℕ} (g : Going text s at n room cells next m count) (z : Ranged s) where
   pub held : length cells ≡ room
   held = ap length (g .holds) ∙ length-kept room (g .codes)
 
   -- a line that is no cell line
-  pub going-other : asCell (formIn (linesOf (drop next text)) m) ≡ none → CellsTold text s at n cells room (reached.Line next m)
-  unfolding CellsTold
+  pub going-other : asCell (formIn (linesOf (drop next text)) m) ≡ none → CellsReached text s at n cells room (reached.Line next m)
+  unfolding CellsReached
   going-other e =
       record {
         codes = g .codes;
@@ -115,8 +113,8 @@ module _ {text : List ℕ} {s : SizeForm} {at n room : ℕ} {cells : List ℕ} {
         (cells' : List ℕ) (k : ℕ)
         → k ≡ cellFault (listed s (g .codes) []) (placedBy f)
         → (k ≡ 0 → ⊥)
-        → CellsTold text s at n cells' room (reached.Refused (record { number = k; line = m }))
-    unfolding CellsTold
+        → CellsReached text s at n cells' room (reached.Refused (record { number = k; line = m }))
+    unfolding CellsReached
     going-fault cells' k is h = step ∙ rw (← is) (unless-some k m _ h)
 
     -- a cell line without one

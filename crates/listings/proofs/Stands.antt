@@ -1,14 +1,14 @@
 -- The reader of output lines between two lines: the output rows so far, and how a line takes it further. Assumes nothing.
-use Prim.Native.Nat.{ℕ, zero, suc, _+_, _-_, _≤_, _<_}
+use Prim.Native.Nat.{ℕ, suc, _+_, _-_, _≤_, _<_}
 use mathlib.Core.Path.{_≡_, refl, sym, ap, _∙_}
-use mathlib.Core.Option.{Option, some, none}
+use mathlib.Core.Option.{some, none}
 use mathlib.Core.List.{List, [], _∷_, _++_}
 use native.Mathlib.Omega.{arith}
-use lib.ListN.{length, getD, drop, set, length-append}
+use lib.ListN.{length, drop, set, length-append}
 use borrow.Author.Tests.{ltb-true}
-use Rattle.common.specs.Limits.{maxOutputs}
+use Rattle.common.specs.Limits.{maxRows, maxOutputs}
 use Rattle.common.specs.Lists.{zeros, padded}
-use Rattle.common.specs.Outcome.{Outcome, refused, _then_, unless}
+use Rattle.common.specs.Outcome.{refused, _then_, unless}
 use Rattle.common.proofs.Outcome.{unless-none}
 use Rattle.figures.specs.Line.{Lines, linesOf, afterFirst, lineEnd}
 use Rattle.forms.specs.declared.SizeForm.{SizeForm}
@@ -20,7 +20,7 @@ use Rattle.listings.specs.Loading.{Listed, standFault, withStand, loadEn
 use Rattle.listings.specs.Loader.{listed}
 use Rattle.listings.proofs.Loaded.{stand-facts}
 use Rattle.listings.proofs.Kept.{padded-set}
-use Rattle.listings.proofs.Steps.{line-here, unless-some, Small}
+use Rattle.listings.proofs.Steps.{line-here, unless-some, Ranged}
 
 -- output lines from the position at, line n, on, with the line of output j at the position next, line m
 pub record Standing (text : List ℕ) (s : SizeForm) (at n : ℕ) (outs : List ℕ) (next m j : ℕ) : Type 0 where
@@ -122,10 +122,10 @@ module _ {text : List ℕ} {s : SizeForm} {at n : ℕ} {outs : List ℕ} {next m
 
       -- an output line without one
       module _
-          (k : ℕ) (z : Small s)
+          (k : ℕ) (z : Ranged s)
           (is : (codes stands : List ℕ) → length stands ≡ j → k ≡ standFault (listed s codes stands) (f .number) (f .target))
           (none : k ≡ 0) where
-        pub target-small : f .target < 128
+        pub target-small : f .target < maxRows
         target-small =
             let w = stand-facts (listed s [] (g .stands)) (f .number) (f .target) (sym (is [] (g .stands) (g .counted)) ∙ none) in
             omega (arith, ltb-true (f .target) (s .rows) (w .1))

@@ -1,33 +1,33 @@
 -- The reader's steps by the form of a line: what the definition does with the line due, told from the form that the reader holds.
 -- Assumes nothing.
-use Prim.Native.Nat.{ℕ, zero, suc, _+_, _-_, _*_, _≤_, _<_}
+use Prim.Native.Nat.{ℕ, zero, suc, _+_, _*_, _≤_, _<_}
 use mathlib.Core.Path.{_≡_, refl, sym, ap, _∙_}
 use mathlib.Core.Logic.{⊎-elim}
-use mathlib.Core.Bool.{Bool, true, false, not, _&&_}
+use mathlib.Core.Bool.{Bool, true, false, not}
 use mathlib.Core.Option.{Option, some, none, Option·map}
-use mathlib.Core.List.{List, [], _∷_, _++_}
+use mathlib.Core.List.{List, [], _∷_}
 use native.Mathlib.Omega.{arith}
-use native.Mathlib.Nat.{mul-le-mul-right}
+use native.Mathlib.Nat.{mul-le-mul-right, mul-le-mul-left}
 use lib.ListN.{length, drop, length-drop, drop-of-length-le}
 use lib.Dec.{eqb, ltb, leb}
-use borrow.Author.Tests.{lt-ltb, le-ltb, ltb-true, leb-true, leb-false, le-leb, eq-eqb, ne-eqb}
-use Rattle.common.specs.Limits.{maxRows, maxColumns, maxSwitches, maxOutputs}
+use borrow.Author.Tests.{lt-ltb, le-ltb, ltb-true, leb-false, le-leb, eq-eqb, ne-eqb}
+use Rattle.common.specs.Limits.{maxRows, maxColumns, maxSwitches}
 use Rattle.common.specs.Outcome.{Outcome, done, refused, _then_, _when_, lowest, unless}
 use Rattle.common.proofs.Lists.{by-test, below-or-not}
 use Rattle.figures.specs.Line.{Lines, left, _⏎_, onto, linesOf, follows, afterFirst, lineEnd}
 use Rattle.figures.proofs.Ends.{line-left}
 use Rattle.cells.specs.declared.Cell.{Cell}
 use Rattle.cells.specs.declared.Cell.the-variants.{Off, On, Yes, No}
-use Rattle.cells.specs.Record.{inRange}
 use Rattle.forms.specs.declared.Form.{Form}
 use Rattle.forms.specs.declared.SizeForm.{SizeForm}
-use Rattle.forms.specs.Form.{Placed, placed, switchOf, cappedCell, capped, notDue, formOf, formIn, kindOf, ofKind, asEnd, asCell}
+use Rattle.forms.specs.Form.{Placed, placed, switchOf, cappedCell, capped, notDue, formIn, kindOf, ofKind, asEnd, asCell}
 use Rattle.forms.specs.Due.{due}
 use Rattle.forms.proofs.Cases.{as-cell}
 use Rattle.forms.proofs.Lines.{due-end, no-end, lines-after}
 use Rattle.listings.specs.Loading.{Listed, switchBelow, cellFault, withCell, standFault, loadEnd, loadOuts, loadCells}
-use Rattle.listings.proofs.Printed.{in-range}
-use Rattle.listings.proofs.Loaded.{CellFacts, cell-facts}
+use Rattle.listings.specs.Loader.{sizesIn}
+use Rattle.listings.proofs.Printed.{Sizes, in-range}
+use Rattle.listings.proofs.Loaded.{cell-facts}
 
 -- where the form is not that of a missing line, a line feed ends the line
 pub line-here :
@@ -143,32 +143,18 @@ unfolding formIn loadCells
 other-line x n (left s) h e = missing-out (x .outputs) x n s h
 other-line x n (l ⏎ ls) h e = other-step x n l ls (placed l) refl (sym (as-cell l n) ∙ e)
 
--- the sizes of a listing whose first line is in range
-pub record Small (s : SizeForm) : Type 0 where
-  pub rows-least : 1 ≤ s .rows
-  pub rows-most : s .rows ≤ 128
-  pub columns-most : s .columns ≤ 128
-  pub switches-most : s .switches ≤ maxSwitches
-  pub outputs-least : 1 ≤ s .outputs
-  pub outputs-most : s .outputs ≤ 32
-  pub cells-most : s .rows * s .columns ≤ 16384
+-- the sizes of a first line in range, as plain facts
+abbrev pub Ranged : SizeForm → Type 0
+Ranged s = Sizes (s .rows) (s .columns) (s .switches) (s .outputs)
 
-pub product-small : (a b : ℕ) → a ≤ 128 → b ≤ 128 → a * b ≤ 16384
-product-small a b h k = omega (arith, mul-le-mul-right b h)
+pub ranged : (s : SizeForm) → sizesIn s ≡ true → Ranged s
+ranged s h = in-range (s .rows) (s .columns) (s .switches) (s .outputs) h
 
-pub sizes-small : (s : SizeForm) → inRange (s .rows) (s .columns) (s .switches) (s .outputs) ≡ true → Small s
-unfolding maxRows maxColumns maxOutputs
-sizes-small s h =
-    let z = in-range (s .rows) (s .columns) (s .switches) (s .outputs) h in
-    record {
-      rows-least = z .rows-least;
-      rows-most = z .rows-most;
-      columns-most = z .columns-most;
-      switches-most = z .switches-most;
-      outputs-least = z .outputs-least;
-      outputs-most = z .outputs-most;
-      cells-most = product-small (s .rows) (s .columns) (z .rows-most) (z .columns-most);
-    }
+pub product-most : (a b m n : ℕ) → a ≤ m → b ≤ n → a * b ≤ m * n
+product-most a b m n h k = omega (arith, mul-le-mul-right b h, mul-le-mul-left m k)
+
+pub cells-most : (s : SizeForm) → Ranged s → s .rows * s .columns ≤ maxRows * maxColumns
+cells-most s z = product-most (s .rows) (s .columns) maxRows maxColumns (z .rows-most) (z .columns-most)
 
 -- ground 12 on a cell line, test by test
 pub row-out : (x : Listed) (p : Placed) → x .rows ≤ p .row → cellFault x p ≡ 12

@@ -1,15 +1,14 @@
 -- Load's answer as the call hands it over, and what its reader holds between two lines.
 use Prim.Native.Nat.{ℕ, _+_, _*_, _≤_}
 use mathlib.Core.Path.{_≡_}
-use mathlib.Core.Bool.{true, false}
+use mathlib.Core.Bool.{Bool, true, false}
 use mathlib.Core.List.{List, [], _++_}
 use lib.ListN.{length, take, drop}
-use Rattle.common.specs.declared.Refusal.{Refusal}
 use Rattle.common.specs.Limits.{maxOutputs}
 use Rattle.common.specs.Lists.{zeros, padded}
-use Rattle.common.specs.Outcome.{Outcome, done, refused, _then_, refusalOf, valueOf, bufferOf}
+use Rattle.common.specs.Outcome.{Outcome, done, refused, refusalOf, valueOf, bufferOf}
 use Rattle.figures.specs.Line.{linesOf}
-use Rattle.cells.specs.Record.{Whole, no-record}
+use Rattle.cells.specs.Record.{Whole, no-record, inRange}
 use Rattle.forms.specs.declared.SizeForm.{SizeForm}
 use Rattle.forms.specs.declared.CellForm.{CellForm}
 use Rattle.forms.specs.Form.{Placed}
@@ -32,6 +31,10 @@ pub record Handed (o : Outcome Whole) (room : ℕ) (r : Loaded) (cells : List �
 abbrev pub listed : SizeForm → List ℕ → List ℕ → Listed
 listed s codes outs =
     record { rows = s .rows; columns = s .columns; switches = s .switches; outputs = s .outputs; codes = codes; outs = outs }
+
+-- ground 2 does not touch the sizes
+abbrev pub sizesIn : SizeForm → Bool
+sizesIn s = inRange (s .rows) (s .columns) (s .switches) (s .outputs)
 
 -- the cell that a form names
 abbrev pub placedBy : CellForm → Placed
@@ -57,7 +60,7 @@ pub record CellsRead (text : List ℕ) (s : SizeForm) (at n next m : ℕ) (cells
   pub lines : m ≤ n + length codes
 
 -- what the answer of the reader of cell lines says
-unfoldable pub CellsTold : List ℕ → SizeForm → (at n : ℕ) → List ℕ → ℕ → Reached → Type 0
-CellsTold text s at n cells room (reached.Line next m) = CellsRead text s at n next m cells room
-CellsTold text s at n cells room (reached.Refused r) =
+unfoldable pub CellsReached : List ℕ → SizeForm → (at n : ℕ) → List ℕ → ℕ → Reached → Type 0
+CellsReached text s at n cells room (reached.Line next m) = CellsRead text s at n next m cells room
+CellsReached text s at n cells room (reached.Refused r) =
     loadCells (listed s [] []) n (linesOf (drop at text)) ≡ refused (r .number) (r .line)

@@ -1,12 +1,12 @@
 -- Document 01, "Listing": a listing read line by line, and load's answer.
-use Prim.Native.Nat.{ℕ, zero, suc, _+_, _-_, _*_}
-use mathlib.Core.Bool.{Bool, true, false, not, _&&_, _||_}
-use mathlib.Core.Option.{Option, some, none}
+use Prim.Native.Nat.{ℕ, zero, suc, _+_, _*_}
+use mathlib.Core.Bool.{Bool, true, not, _&&_}
+use mathlib.Core.Option.{some, none}
 use mathlib.Core.List.{List, [], _∷_, _++_}
 use lib.ListN.{length, getD}
 use lib.Dec.{eqb, ltb}
 use Rattle.common.specs.Limits.{maxOutputs}
-use Rattle.common.specs.Lists.{zeros, padded}
+use Rattle.common.specs.Lists.{padded}
 use Rattle.common.specs.Outcome.{Outcome, done, refused, _then_, _when_, lowest, unless}
 use Rattle.figures.specs.Line.{Lines, left, _⏎_, linesOf, follows}
 use Rattle.cells.specs.declared.Cell.{Cell}
@@ -14,7 +14,7 @@ use Rattle.cells.specs.declared.Cell.the-variants.{Off, On, Yes, No}
 use Rattle.cells.specs.declared.Crossbar.{Crossbar}
 use Rattle.cells.specs.Code.{codeOf}
 use Rattle.cells.specs.Record.{Whole, size, inRange}
-use Rattle.forms.specs.Due.{Taken, due}
+use Rattle.forms.specs.Due.{due}
 use Rattle.forms.specs.Form.{Placed, placed}
 use Rattle.forms.specs.Forms.{crossbarForm, outForm, endForm}
 

@@ -15,13 +15,15 @@ ghost use mathlib.Core.Bool.{true};
 ghost use mathlib.Core.List.{List, []};
 ghost use Prim.Native.Nat.{ℕ, _+_, _*_, _≤_, _<_};
 ghost use lib.ListN.{length, drop, set};
-ghost use Rattle.common.specs.Limits.{maxOutputs};
+ghost use Rattle.common.specs.Limits.{maxRows, maxColumns, maxOutputs};
 ghost use Rattle.common.specs.Lists.{zeros, padded};
-ghost use Rattle.common.specs.Outcome.{Outcome, done, refused, _then_};
+ghost use Rattle.common.specs.Outcome.{refused, _then_};
 ghost use Rattle.figures.specs.Line.{linesOf};
-ghost use Rattle.cells.specs.Record.{inRange};
 ghost use Rattle.listings.specs.Loading.{Listed, switchBelow, cellFault, standFault, sizeFault, loadEnd, loadOuts, loadCells, fitted, loadAt, load};
-ghost use Rattle.listings.specs.Loader.{loadedOf, Handed, listed, placedBy, outputsOf, kept, CellsTold};
+ghost use Rattle.listings.specs.Loader.{Handed, listed, sizesIn, placedBy, outputsOf, kept, CellsReached};
+
+// Ground 12: a cell or an output row is not where it may be, or names a switch that is not there.
+const MISPLACED: u32 = 12;
 
 // What load answers: the refusal, and the record.
 pub struct Loaded {
@@ -82,7 +84,7 @@ fn switch_below(v: u32, cell: Cell) -> bool
 
 // The place of a cell among the cells, row by row.
 fn place_of(s: SizeForm, row: u32, column: u32) -> usize
-    requires { ⌜ (row < 128) × (column < 128) × (s .columns ≤ 128) ⌝ }
+    requires { ⌜ (row < maxRows) × (column < maxColumns) × (s .columns ≤ maxColumns) ⌝ }
     ensures { λ r. ⌜ r ≡ row * s .columns + column ⌝ }
 {
     (row * s.columns + column) as usize
@@ -90,23 +92,23 @@ fn place_of(s: SizeForm, row: u32, column: u32) -> usize
 
 // Ground 12, on a cell line, where the cells before it take up the first `count` places.
 fn cell_fault(s: SizeForm, count: usize, f: CellForm) -> u32
-    requires { ⌜ inRange (s .rows) (s .columns) (s .switches) (s .outputs) ≡ true ⌝ }
+    requires { ⌜ sizesIn s ≡ true ⌝ }
     ensures { λ r. ⌜ ((codes : List ℕ) → length codes ≡ count → r ≡ cellFault (listed s codes []) (placedBy f)) ⌝ }
 {
     if s.rows <= f.row {
-        return 12;
+        return MISPLACED;
     }
     if s.columns <= f.column {
-        return 12;
+        return MISPLACED;
     }
     if place_of(s, f.row, f.column) < count {
-        return 12;
+        return MISPLACED;
     }
     let cell = f.cell;
     if switch_below(s.switches, cell) {
         0
     } else {
-        12
+        MISPLACED
     }
 }
 
@@ -120,7 +122,7 @@ fn stand_fault(s: SizeForm, j: usize, f: OutForm) -> u32
     if f.number as usize != j {
         return 3;
     }
-    if f.target < s.rows { 0 } else { 12 }
+    if f.target < s.rows { 0 } else { MISPLACED }
 }
 
 // Stores a code at a place, if the buffer has it.
@@ -149,10 +151,11 @@ fn refuse(refusal: Refusal, cells: &mut [u8]) -> Loaded
     }
 }
 
-// Cell lines, as many as there are, from the position `at` on. The buffer is clear when they begin.
+// Cell lines, as many as there are, from the position `at` on. The buffer is clear when they begin. Each cell line has a place of its
+// own, so there are at most R·C, and the line's number fits.
 fn load_cells(text: &[u8], at: usize, line: u32, s: SizeForm, cells: &mut [u8]) -> Reached
-    requires { ⌜ (inRange (s .rows) (s .columns) (s .switches) (s .outputs) ≡ true) × (line ≤ 65536) × (now cells ≡ zeros (length (now cells))) ⌝ }
-    ensures { λ r. ⌜ CellsTold (now (text .entry)) s at line (now (cells .exit)) (length (now (cells .entry))) r ⌝ }
+    requires { ⌜ (sizesIn s ≡ true) × (line ≤ 65536) × (now cells ≡ zeros (length (now cells))) ⌝ }
+    ensures { λ r. ⌜ CellsReached (now (text .entry)) s at line (now (cells .exit)) (length (now (cells .entry))) r ⌝ }
 {
     let mut next = at;
     let mut number = line;
@@ -193,7 +196,7 @@ fn no_outputs(number: u32, line: u32) -> Outputs
 
 // `(end)`, and ground 10.
 fn load_end(text: &[u8], at: usize, line: u32, outs: [u16; MAX_OUTPUTS]) -> Outputs
-    requires { ⌜ line ≤ 131072 ⌝ }
+    requires { ⌜ line ≤ 33554432 ⌝ }
     ensures { λ r.
         ⌜ ((x : Listed)
         → padded maxOutputs (x .outs) ≡ outs
@@ -214,7 +217,7 @@ fn load_end(text: &[u8], at: usize, line: u32, outs: [u16; MAX_OUTPUTS]) -> Outp
 
 // The output lines, and the last line.
 fn load_outs(text: &[u8], at: usize, line: u32, s: SizeForm) -> Outputs
-    requires { ⌜ (inRange (s .rows) (s .columns) (s .switches) (s .outputs) ≡ true) × (line ≤ 100000) ⌝ }
+    requires { ⌜ (sizesIn s ≡ true) × (line ≤ 16777216) ⌝ }
     ensures { λ r.
         ⌜ ((codes : List ℕ)
         → r ≡ outputsOf (loadOuts (s .outputs) (listed s codes []) line (linesOf (drop at (now (text .entry)))))) ⌝ }
@@ -241,7 +244,7 @@ fn load_outs(text: &[u8], at: usize, line: u32, s: SizeForm) -> Outputs
 
 // The record and the cells, and ground 14. The buffer holds the cells as far as it has room.
 fn finish(s: SizeForm, outs: [u16; MAX_OUTPUTS], cells: &mut [u8]) -> Loaded
-    requires { ⌜ inRange (s .rows) (s .columns) (s .switches) (s .outputs) ≡ true ⌝ }
+    requires { ⌜ sizesIn s ≡ true ⌝ }
     ensures { λ r.
         ⌜ ((codes stands : List ℕ)
         → now (cells .entry) ≡ kept (length (now (cells .entry))) codes
@@ -273,7 +276,7 @@ fn finish(s: SizeForm, outs: [u16; MAX_OUTPUTS], cells: &mut [u8]) -> Loaded
 
 // The lines after the first. The buffer is clear when they begin.
 fn load_rest(text: &[u8], at: usize, line: u32, s: SizeForm, cells: &mut [u8]) -> Loaded
-    requires { ⌜ (inRange (s .rows) (s .columns) (s .switches) (s .outputs) ≡ true) × (line ≤ 65536) × (now cells ≡ zeros (length (now cells))) ⌝ }
+    requires { ⌜ (sizesIn s ≡ true) × (line ≤ 65536) × (now cells ≡ zeros (length (now cells))) ⌝ }
     ensures { λ r.
         ⌜ Handed (loadCells (listed s [] []) line (linesOf (drop at (now (text .entry)))) then λ x. fitted (length (now (cells .entry))) x)
         (length (now (cells .entry))) r (now (cells .exit)) ⌝ }

@@ -4,10 +4,6 @@ use Rattle.jobs.proofs.Due.{end-none, end-stops, end-goes}
 use borrow.Author.Needs.{needs}
 use Rattle.jobs.proofs.lines.end_line.Statement.{statement}
 use Rattle.jobs.proofs.lines.end_line.Tie as tie
-use Rattle.jobs.proofs.lines.end_line.Reads as reads
-use Rattle.jobs.proofs.lines.end_line.Lts as lts
-use Rattle.forms.proofs.form_at.Reads as form-at-reads
-use Rattle.jobs.proofs.lines.next_line.Reads as next-line-reads
 
 form-at-requires : tie.Need-form-at-requires
 form-at-requires c κs = search needs

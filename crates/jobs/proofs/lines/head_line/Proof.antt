@@ -6,12 +6,6 @@ use Rattle.jobs.proofs.Due.{head-none, head-stops, head-sized, head-goe
 use borrow.Author.Needs.{needs}
 use Rattle.jobs.proofs.lines.head_line.Statement.{statement}
 use Rattle.jobs.proofs.lines.head_line.Tie as tie
-use Rattle.jobs.proofs.lines.head_line.Reads as reads
-use Rattle.jobs.proofs.lines.head_line.Lts as lts
-use Rattle.diagram.proofs.grounds.head_fault.Reads as head-fault-reads
-use Rattle.forms.proofs.form_at.Reads as form-at-reads
-use Rattle.jobs.proofs.lines.next_line.Reads as next-line-reads
-use Rattle.jobs.proofs.lines.no_head.Reads as no-head-reads
 
 form-at-requires : tie.Need-form-at-requires
 form-at-requires c κs = search needs

@@ -3,9 +3,6 @@ use Rattle.jobs.proofs.Due.{lines-next, lines-same}
 use borrow.Author.Needs.{needs}
 use Rattle.jobs.proofs.lines.next_line.Statement.{statement}
 use Rattle.jobs.proofs.lines.next_line.Tie as tie
-use Rattle.jobs.proofs.lines.next_line.Reads as reads
-use Rattle.jobs.proofs.lines.next_line.Lts as lts
-use Rattle.figures.proofs.line_end.Reads as line-end-reads
 
 line-end-requires : tie.Need-line-end-requires
 line-end-requires c κs = search needs

@@ -9,12 +9,6 @@ use Rattle.jobs.proofs.Due.{node-none, node-most, node-stops, node-goes
 use borrow.Author.Needs.{needs}
 use Rattle.jobs.proofs.lines.node_line.Statement.{statement}
 use Rattle.jobs.proofs.lines.node_line.Tie as tie
-use Rattle.jobs.proofs.lines.node_line.Reads as reads
-use Rattle.jobs.proofs.lines.node_line.Lts as lts
-use Rattle.diagram.proofs.grounds.node_fault.Reads as node-fault-reads
-use Rattle.forms.proofs.form_at.Reads as form-at-reads
-use Rattle.jobs.proofs.lines.next_line.Reads as next-line-reads
-use Rattle.jobs.proofs.lines.no_node.Reads as no-node-reads
 
 form-at-requires : tie.Need-form-at-requires
 form-at-requires c κs = search needs

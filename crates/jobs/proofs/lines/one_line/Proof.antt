@@ -6,11 +6,6 @@ use Rattle.jobs.proofs.Due.{one-none, one-most, one-stops, one-goes}
 use borrow.Author.Needs.{needs}
 use Rattle.jobs.proofs.lines.one_line.Statement.{statement}
 use Rattle.jobs.proofs.lines.one_line.Tie as tie
-use Rattle.jobs.proofs.lines.one_line.Reads as reads
-use Rattle.jobs.proofs.lines.one_line.Lts as lts
-use Rattle.diagram.proofs.grounds.one_fault.Reads as one-fault-reads
-use Rattle.forms.proofs.form_at.Reads as form-at-reads
-use Rattle.jobs.proofs.lines.next_line.Reads as next-line-reads
 
 form-at-requires : tie.Need-form-at-requires
 form-at-requires c κs = search needs

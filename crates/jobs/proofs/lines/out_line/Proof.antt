@@ -9,11 +9,6 @@ use Rattle.jobs.proofs.Due.{out-none, out-stops, out-goes, out-small}
 use borrow.Author.Needs.{needs}
 use Rattle.jobs.proofs.lines.out_line.Statement.{statement}
 use Rattle.jobs.proofs.lines.out_line.Tie as tie
-use Rattle.jobs.proofs.lines.out_line.Reads as reads
-use Rattle.jobs.proofs.lines.out_line.Lts as lts
-use Rattle.diagram.proofs.grounds.out_fault.Reads as out-fault-reads
-use Rattle.forms.proofs.form_at.Reads as form-at-reads
-use Rattle.jobs.proofs.lines.next_line.Reads as next-line-reads
 
 form-at-requires : tie.Need-form-at-requires
 form-at-requires c κs = search needs

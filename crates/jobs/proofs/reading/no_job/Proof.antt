@@ -4,10 +4,7 @@ use Rattle.common.specs.Limits.{maxOutputs}
 use Rattle.jobs.specs.Answer.{noJob}
 use Rattle.jobs.proofs.reading.no_job.Statement.{statement}
 use Rattle.jobs.proofs.reading.no_job.Tie as tie
-use Rattle.jobs.proofs.reading.no_job.Reads as reads
-use Rattle.jobs.proofs.reading.no_job.Lts as lts
 
--- src/reading.rt:146:1
 returns : tie.Need-returns
 unfolding noJob maxOutputs
 returns c = search needs

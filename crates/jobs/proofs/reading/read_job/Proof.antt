@@ -3,10 +3,6 @@ use Rattle.jobs.proofs.Whole.{refused-table, read-done}
 use borrow.Author.Needs.{needs}
 use Rattle.jobs.proofs.reading.read_job.Statement.{statement}
 use Rattle.jobs.proofs.reading.read_job.Tie as tie
-use Rattle.jobs.proofs.reading.read_job.Reads as reads
-use Rattle.jobs.proofs.reading.read_job.Lts as lts
-use Rattle.jobs.proofs.reading.clear_table.Reads as clear-table-reads
-use Rattle.jobs.proofs.reading.read_lines.Reads as read-lines-reads
 
 read-lines-requires : tie.Need-read-lines-requires
 read-lines-requires c κs = search needs

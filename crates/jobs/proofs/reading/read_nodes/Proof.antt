@@ -6,10 +6,6 @@ use Rattle.jobs.proofs.Turns.{NodesAt, nodes-start, nodes-stops, nodes-
 use borrow.Author.Needs.{needs}
 use Rattle.jobs.proofs.reading.read_nodes.Statement.{statement}
 use Rattle.jobs.proofs.reading.read_nodes.Tie as tie
-use Rattle.jobs.proofs.reading.read_nodes.Reads as reads
-use Rattle.jobs.proofs.reading.read_nodes.Lts as lts
-use Rattle.jobs.proofs.lines.node_line.Reads as node-line-reads
-use Rattle.jobs.proofs.reading.clear_table.Reads as clear-table-reads
 
 abbrev Inv-loop : tie.InvT-loop
 Inv-loop text at xs₀ ls₀ hs₀ ts₀ v one n next₀ k₀ xs ls hs ts next k = NodesAt text at v one n xs ls hs ts next k

@@ -3,10 +3,6 @@ use Rattle.jobs.proofs.Turns.{opening-stops, opening-goes}
 use borrow.Author.Needs.{needs}
 use Rattle.jobs.proofs.reading.read_opening.Statement.{statement}
 use Rattle.jobs.proofs.reading.read_opening.Tie as tie
-use Rattle.jobs.proofs.reading.read_opening.Reads as reads
-use Rattle.jobs.proofs.reading.read_opening.Lts as lts
-use Rattle.jobs.proofs.lines.head_line.Reads as head-line-reads
-use Rattle.jobs.proofs.lines.one_line.Reads as one-line-reads
 
 head-line-requires : tie.Need-head-line-requires
 head-line-requires c κs = search needs

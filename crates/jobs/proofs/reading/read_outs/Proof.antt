@@ -1,15 +1,10 @@
 -- `jobs::reading::read_outs` meets its contract: the invariant says how the reading goes on from output j. Assumes nothing.
 use Prim.Native.Nat.{_-_}
 use native.Mathlib.Omega.{arith}
-use lib.ListN.{take}
 use Rattle.common.specs.Limits.{maxNodes, maxOutputs}
 use Rattle.jobs.proofs.Turns.{OutsAt, outs-start, outs-count, outs-stops, outs-more, outs-done}
-use borrow.Author.Needs.{needs}
 use Rattle.jobs.proofs.reading.read_outs.Statement.{statement}
 use Rattle.jobs.proofs.reading.read_outs.Tie as tie
-use Rattle.jobs.proofs.reading.read_outs.Reads as reads
-use Rattle.jobs.proofs.reading.read_outs.Lts as lts
-use Rattle.jobs.proofs.lines.out_line.Reads as out-line-reads
 
 abbrev Inv-loop : tie.InvT-loop
 Inv-loop text at ts one n k outs₀ next₀ j₀ outs next j = OutsAt text at one n k ts outs next j

@@ -1,18 +1,12 @@
 -- `jobs::walking::walk` meets its contract. Assumes nothing.
 use mathlib.Core.Path.{refl, _∙_}
 use native.Mathlib.Omega.{arith}
-use Rattle.common.specs.Limits.{maxNodes, maxOutputs}
+use Rattle.common.specs.Limits.{maxOutputs}
 use Rattle.cells.proofs.Every.{held, broken}
 use Rattle.jobs.proofs.Walks.{walk-refused, nodes-few, outs-few, walk-unset, walk-past, walk-found}
 use borrow.Author.Needs.{needs}
 use Rattle.jobs.proofs.walking.walk.Statement.{statement}
 use Rattle.jobs.proofs.walking.walk.Tie as tie
-use Rattle.jobs.proofs.walking.walk.Reads as reads
-use Rattle.jobs.proofs.walking.walk.Lts as lts
-use Rattle.cells.proofs.checks.is_setting.Reads as is-setting-reads
-use Rattle.diagram.proofs.walking.walk_value.Reads as walk-value-reads
-use Rattle.jobs.proofs.reading.read_job.Reads as read-job-reads
-use Rattle.jobs.proofs.walking.no_walk.Reads as no-walk-reads
 
 read-job-requires : tie.Need-read-job-requires
 read-job-requires c κs = search needs

@@ -1,16 +1,12 @@
 -- `listings::loading::cell_fault` meets its contract: each return knows the tests that the cell passed. Assumes nothing.
 use borrow.Author.Needs.{needs}
-use mathlib.Core.Path.{_≡_, sym, ap, _∙_}
+use mathlib.Core.Path.{sym, _∙_}
 use mathlib.Core.Bool.{true, false}
 use native.Mathlib.Omega.{arith}
 use Rattle.common.specs.Outcome.{lowest}
-use Rattle.listings.proofs.Steps.{sizes-small, row-out, column-out, cell-early, cell-named}
+use Rattle.listings.proofs.Steps.{ranged, row-out, column-out, cell-early, cell-named}
 use Rattle.listings.proofs.loading.cell_fault.Statement.{statement}
 use Rattle.listings.proofs.loading.cell_fault.Tie as tie
-use Rattle.listings.proofs.loading.cell_fault.Reads as reads
-use Rattle.listings.proofs.loading.cell_fault.Lts as lts
-use Rattle.listings.proofs.loading.place_of.Reads as place-of-reads
-use Rattle.listings.proofs.loading.switch_below.Reads as switch-below-reads
 
 returns : tie.Need-returns
 returns c = λ codes e. sym (row-out _ _ (c .if1 .taken))
@@ -21,7 +17,7 @@ returns-2 c = λ codes e. sym (column-out _ _ (c .before .before .before .if1 .l
 place-of-requires : tie.Need-place-of-requires
 place-of-requires c κs =
     let a = c .before .before .before .before .before .before .args in
-    let z = sizes-small (a .s) (c .before .before .before .before .before .before .pre) in
+    let z = ranged (a .s) (c .before .before .before .before .before .before .pre) in
     (omega arith, omega arith, omega arith)
 
 returns-3 : tie.Need-returns-3

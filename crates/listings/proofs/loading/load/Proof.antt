@@ -3,9 +3,6 @@ use borrow.Author.Needs.{needs}
 use Rattle.listings.specs.Loading.{load}
 use Rattle.listings.proofs.loading.load.Statement.{statement}
 use Rattle.listings.proofs.loading.load.Tie as tie
-use Rattle.listings.proofs.loading.load.Reads as reads
-use Rattle.listings.proofs.loading.load.Lts as lts
-use Rattle.listings.proofs.loading.load_from.Reads as load-from-reads
 
 load-from-requires : tie.Need-load-from-requires
 load-from-requires c κs = search needs

@@ -1,25 +1,17 @@
 -- `listings::loading::load_cells` meets its contract: between two lines the definition has still to read the lines from the position
 -- reached on, and the buffer holds the cells before it. The measure is what is left of the text. Assumes nothing.
 use borrow.Author.Needs.{needs}
-use Prim.Native.Nat.{ℕ, _+_, _-_, _*_, _≤_, _<_}
-use mathlib.Core.Path.{_≡_, sym, ap, _∙_}
+use Prim.Native.Nat.{_-_}
+use mathlib.Core.Path.{sym, ap, _∙_}
 use native.Mathlib.Omega.{arith}
-use lib.ListN.{length, length-set}
-use Rattle.figures.specs.Line.{lineEnd}
+use lib.ListN.{length}
+use Rattle.common.specs.Limits.{maxRows, maxColumns}
 use Rattle.forms.specs.Form.{asCell}
 use Rattle.forms.proofs.Cases.{not-cell}
-use Rattle.listings.proofs.Steps.{sizes-small, end-forward}
+use Rattle.listings.proofs.Steps.{ranged, cells-most, end-forward}
 use Rattle.listings.proofs.Reader.{Going, going-start, held, going-other, going-inside, going-fault, going-more, right}
 use Rattle.listings.proofs.loading.load_cells.Statement.{statement}
 use Rattle.listings.proofs.loading.load_cells.Tie as tie
-use Rattle.listings.proofs.loading.load_cells.Reads as reads
-use Rattle.listings.proofs.loading.load_cells.Lts as lts
-use Rattle.cells.proofs.Cell.to_code.Reads as to-code-reads
-use Rattle.figures.proofs.line_end.Reads as line-end-reads
-use Rattle.forms.proofs.form_at.Reads as form-at-reads
-use Rattle.listings.proofs.loading.cell_fault.Reads as cell-fault-reads
-use Rattle.listings.proofs.loading.place_of.Reads as place-of-reads
-use Rattle.listings.proofs.loading.store.Reads as store-reads
 
 abbrev Inv-loop : tie.InvT-loop
 Inv-loop text at line s cells₀ next₀ number₀ count₀ cells next number count = Going text s at line (length cells₀) cells next number count
@@ -40,14 +32,14 @@ same-length : tie.Need-same-length Inv-loop μ-loop
 same-length c =
     let l = c .before .before in
     let a = c .before .before .before .before .before .args in
-    let z = sizes-small (a .s) (c .before .before .before .before .before .pre .0) in
+    let z = ranged (a .s) (c .before .before .before .before .before .pre .0) in
     held (l .loop .inv) z
 
 returns : tie.Need-returns Inv-loop μ-loop
 returns c =
     let l = c .before .before in
     let a = c .before .before .before .before .before .args in
-    let z = sizes-small (a .s) (c .before .before .before .before .before .pre .0) in
+    let z = ranged (a .s) (c .before .before .before .before .before .pre .0) in
     going-other (l .loop .inv) z (ap asCell (sym (c .before .form-at .ensures)) ∙ not-cell _ (c .match .keys2))
 
 cell-fault-requires : tie.Need-cell-fault-requires Inv-loop μ-loop
@@ -57,14 +49,14 @@ same-length-2 : tie.Need-same-length-2 Inv-loop μ-loop
 same-length-2 c =
     let l = c .before .before .before .before .before .before in
     let a = c .before .before .before .before .before .before .before .before .before .args in
-    let z = sizes-small (a .s) (c .before .before .before .before .before .before .before .before .before .pre .0) in
+    let z = ranged (a .s) (c .before .before .before .before .before .before .before .before .before .pre .0) in
     held (l .loop .inv) z
 
 returns-2 : tie.Need-returns-2 Inv-loop μ-loop
 returns-2 c =
     let l = c .before .before .before .before .before .before in
     let a = c .before .before .before .before .before .before .before .before .before .args in
-    let z = sizes-small (a .s) (c .before .before .before .before .before .before .before .before .before .pre .0) in
+    let z = ranged (a .s) (c .before .before .before .before .before .before .before .before .before .pre .0) in
     let e = sym (c .before .before .before .before .before .form-at .ensures) ∙ c .before .before .before .f .given .1 in
     let f = c .before .before .before .f .given .0 .0 in
     going-fault (l .loop .inv) z f e _ _ (c .before .cell-fault .ensures (l .loop .inv .codes) (l .loop .inv .counted)) (c .if1 .taken)
@@ -73,7 +65,7 @@ place-of-requires : tie.Need-place-of-requires Inv-loop μ-loop
 place-of-requires c κs =
     let l = c .before .before .before .before .before .before in
     let a = c .before .before .before .before .before .before .before .before .before .args in
-    let z = sizes-small (a .s) (c .before .before .before .before .before .before .before .before .before .pre .0) in
+    let z = ranged (a .s) (c .before .before .before .before .before .before .before .before .before .pre .0) in
     let e = sym (c .before .before .before .before .before .form-at .ensures) ∙ c .before .before .before .f .given .1 in
     let f = c .before .before .before .f .given .0 .0 in
     let w = right (a .s) (l .loop .inv .codes) _ f z (l .loop .inv .counted) (sym (c .before .cell-fault .ensures (l .loop .inv .codes) (l .loop .inv .counted)) ∙ c .if1 .left) in
@@ -86,7 +78,7 @@ cast-store : tie.Need-cast-store Inv-loop μ-loop
 cast-store c =
     let l = c .before .before .before .before .before .before .before .before .before in
     let a = c .before .before .before .before .before .before .before .before .before .before .before .before .args in
-    let z = sizes-small (a .s) (c .before .before .before .before .before .before .before .before .before .before .before .before .pre .0) in
+    let z = ranged (a .s) (c .before .before .before .before .before .before .before .before .before .before .before .before .pre .0) in
     let e = sym (c .before .before .before .before .before .before .before .before .form-at .ensures) ∙ c .before .before .before .before .before .before .f .given .1 in
     let f = c .before .before .before .before .before .before .f .given .0 .0 in
     let w = right (a .s) (l .loop .inv .codes) _ f z (l .loop .inv .counted) (sym (c .before .before .before .before .cell-fault .ensures (l .loop .inv .codes) (l .loop .inv .counted)) ∙ c .before .before .before .if1 .left) in
@@ -97,15 +89,16 @@ store-requires : tie.Need-store-requires Inv-loop μ-loop
 store-requires c κs = search needs
 
 add-count : tie.Need-add-count Inv-loop μ-loop
+unfolding maxRows maxColumns
 add-count c =
     let l = c .before .before .before .before .before .before .before .before .before .before .before .before in
     let a = c .before .before .before .before .before .before .before .before .before .before .before .before .before .before .before .args in
-    let z = sizes-small (a .s) (c .before .before .before .before .before .before .before .before .before .before .before .before .before .before .before .pre .0) in
+    let z = ranged (a .s) (c .before .before .before .before .before .before .before .before .before .before .before .before .before .before .before .pre .0) in
     let e = sym (c .before .before .before .before .before .before .before .before .before .before .before .form-at .ensures) ∙ c .before .before .before .before .before .before .before .before .before .f .given .1 in
     let f = c .before .before .before .before .before .before .before .before .before .f .given .0 .0 in
     let w = right (a .s) (l .loop .inv .codes) _ f z (l .loop .inv .counted) (sym (c .before .before .before .before .before .before .before .cell-fault .ensures (l .loop .inv .codes) (l .loop .inv .counted)) ∙ c .before .before .before .before .before .before .if1 .left) in
     let k = c .before .before .before .before .before .place-of .ensures in
-    omega (arith, w .inside)
+    omega (arith, w .inside, cells-most (a .s) z)
 
 line-end-requires : tie.Need-line-end-requires Inv-loop μ-loop
 line-end-requires c κs = search needs
@@ -114,24 +107,25 @@ add-next : tie.Need-add-next Inv-loop μ-loop
 add-next c =
     let l = c .before .before .before .before .before .before .before .before .before .before .before .before .before in
     let a = c .before .before .before .before .before .before .before .before .before .before .before .before .before .before .before .before .args in
-    let z = sizes-small (a .s) (c .before .before .before .before .before .before .before .before .before .before .before .before .before .before .before .before .pre .0) in
+    let z = ranged (a .s) (c .before .before .before .before .before .before .before .before .before .before .before .before .before .before .before .before .pre .0) in
     let e = sym (c .before .before .before .before .before .before .before .before .before .before .before .before .form-at .ensures) ∙ c .before .before .before .before .before .before .before .before .before .before .f .given .1 in
     let f = c .before .before .before .before .before .before .before .before .before .before .f .given .0 .0 in
     let k = c .line-end .ensures in
     omega (arith, going-inside (l .loop .inv) z f e)
 
 add-number : tie.Need-add-number Inv-loop μ-loop
+unfolding maxRows maxColumns
 add-number c =
     let l = c .before .before .before .before .before .before .before .before .before .before .before .before .before in
     let a = c .before .before .before .before .before .before .before .before .before .before .before .before .before .before .before .before .args in
-    let z = sizes-small (a .s) (c .before .before .before .before .before .before .before .before .before .before .before .before .before .before .before .before .pre .0) in
-    omega (arith, l .loop .inv .lines, l .loop .inv .short)
+    let z = ranged (a .s) (c .before .before .before .before .before .before .before .before .before .before .before .before .before .before .before .before .pre .0) in
+    omega (arith, l .loop .inv .lines, l .loop .inv .short, cells-most (a .s) z)
 
 loop-less : tie.Need-loop-less Inv-loop μ-loop
 loop-less c =
     let l = c .before .before .before .before .before .before .before .before .before .before .before .before .before in
     let a = c .before .before .before .before .before .before .before .before .before .before .before .before .before .before .before .before .args in
-    let z = sizes-small (a .s) (c .before .before .before .before .before .before .before .before .before .before .before .before .before .before .before .before .pre .0) in
+    let z = ranged (a .s) (c .before .before .before .before .before .before .before .before .before .before .before .before .before .before .before .before .pre .0) in
     let e = sym (c .before .before .before .before .before .before .before .before .before .before .before .before .form-at .ensures) ∙ c .before .before .before .before .before .before .before .before .before .before .f .given .1 in
     let f = c .before .before .before .before .before .before .before .before .before .before .f .given .0 .0 in
     let k = c .line-end .ensures in
@@ -141,7 +135,7 @@ loop-again : tie.Need-loop-again Inv-loop μ-loop
 loop-again c =
     let l = c .before .before .before .before .before .before .before .before .before .before .before .before .before in
     let a = c .before .before .before .before .before .before .before .before .before .before .before .before .before .before .before .before .args in
-    let z = sizes-small (a .s) (c .before .before .before .before .before .before .before .before .before .before .before .before .before .before .before .before .pre .0) in
+    let z = ranged (a .s) (c .before .before .before .before .before .before .before .before .before .before .before .before .before .before .before .before .pre .0) in
     let e = sym (c .before .before .before .before .before .before .before .before .before .before .before .before .form-at .ensures) ∙ c .before .before .before .before .before .before .before .before .before .before .f .given .1 in
     let f = c .before .before .before .before .before .before .before .before .before .before .f .given .0 .0 in
     let k = c .line-end .ensures in

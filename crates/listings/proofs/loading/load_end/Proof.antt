@@ -1,11 +1,8 @@
 -- `listings::loading::load_end` meets its contract: the last line by its form, and ground 10. Assumes nothing.
 use borrow.Author.Needs.{needs}
-use Prim.Native.Nat.{ℕ, _+_, _<_, _≤_}
-use mathlib.Core.Path.{_≡_, refl, sym, ap, _∙_}
-use mathlib.Core.List.{[]}
-use mathlib.Core.Option.{some}
+use Prim.Native.Nat.{_+_, _<_, _≤_}
+use mathlib.Core.Path.{sym, ap, _∙_}
 use native.Mathlib.Omega.{arith}
-use denote.Ref.{now}
 use lib.ListN.{length}
 use Rattle.figures.specs.Line.{lineEnd}
 use Rattle.forms.specs.Form.{asEnd, ofKind, kindOf, valuesIn}
@@ -14,11 +11,6 @@ use Rattle.listings.specs.Loader.{outputsOf}
 use Rattle.listings.proofs.Steps.{end-missing, end-inside, end-more, end-last}
 use Rattle.listings.proofs.loading.load_end.Statement.{statement}
 use Rattle.listings.proofs.loading.load_end.Tie as tie
-use Rattle.listings.proofs.loading.load_end.Reads as reads
-use Rattle.listings.proofs.loading.load_end.Lts as lts
-use Rattle.figures.proofs.line_end.Reads as line-end-reads
-use Rattle.forms.proofs.form_at.Reads as form-at-reads
-use Rattle.listings.proofs.loading.no_outputs.Reads as no-outputs-reads
 
 form-at-requires : tie.Need-form-at-requires
 form-at-requires c κs = search needs

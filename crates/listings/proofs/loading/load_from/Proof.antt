@@ -1,27 +1,14 @@
 -- `listings::loading::load_from` meets its contract: the first line by its form, ground 2, and the lines after it. Assumes nothing.
 use borrow.Author.Needs.{needs}
-use Prim.Native.Nat.{ℕ, _+_}
 use mathlib.Core.Path.{_≡_, refl, sym, ap, _∙_}
-use mathlib.Core.List.{List, []}
 use native.Mathlib.Omega.{arith}
-use lib.ListN.{length, length-replicate}
+use lib.ListN.{length}
 use Rattle.common.specs.Lists.{zeros}
-use Rattle.common.specs.Outcome.{_then_}
 use Rattle.forms.specs.Form.{asSize}
 use Rattle.forms.proofs.Cases.{not-size}
-use Rattle.listings.specs.Loading.{fitted, loadAt}
-use Rattle.listings.specs.Loader.{Handed}
 use Rattle.listings.proofs.Handing.{then-refused, handed-as, handed-rest, first-missing, size-right, first-inside, first-fault, first-right}
 use Rattle.listings.proofs.loading.load_from.Statement.{statement}
 use Rattle.listings.proofs.loading.load_from.Tie as tie
-use Rattle.listings.proofs.loading.load_from.Reads as reads
-use Rattle.listings.proofs.loading.load_from.Lts as lts
-use Rattle.common.proofs.clear.Reads as clear-reads
-use Rattle.figures.proofs.line_end.Reads as line-end-reads
-use Rattle.forms.proofs.form_at.Reads as form-at-reads
-use Rattle.listings.proofs.loading.load_rest.Reads as load-rest-reads
-use Rattle.listings.proofs.loading.refuse.Reads as refuse-reads
-use Rattle.listings.proofs.loading.size_fault.Reads as size-fault-reads
 
 form-at-requires : tie.Need-form-at-requires
 form-at-requires c κs = search needs

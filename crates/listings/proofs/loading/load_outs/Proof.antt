@@ -1,33 +1,18 @@
 -- `listings::loading::load_outs` meets its contract: between two lines the definition has still to read the lines from the position
 -- reached on, and the array holds the output rows before them. The measure is what is left of the outputs. Assumes nothing.
 use borrow.Author.Needs.{needs}
-use Prim.Native.Nat.{ℕ, _+_, _-_, _≤_, _<_}
-use mathlib.Core.Path.{_≡_, sym, ap, _∙_}
+use Prim.Native.Nat.{_-_}
+use mathlib.Core.Path.{sym, ap, _∙_}
 use native.Mathlib.Omega.{arith}
-use lib.ListN.{length}
+use Rattle.common.specs.Limits.{maxRows, maxOutputs}
 use Rattle.forms.specs.Form.{asOut}
 use Rattle.forms.proofs.Cases.{not-out}
 use Rattle.listings.specs.Loader.{listed, outputsOf}
-use Rattle.listings.proofs.Steps.{sizes-small}
-use Rattle.listings.proofs.Stands.{
-  Standing,
-  standing-start,
-  standing-end,
-  standing-missing,
-  standing-inside,
-  standing-fault,
-  target-small,
-  standing-more,
-}
+use Rattle.listings.proofs.Steps.{ranged}
+use Rattle.listings.proofs.Stands.{Standing, standing-start, standing-end, standing-missing, standing-inside}
+use Rattle.listings.proofs.Stands.{standing-fault, target-small, standing-more}
 use Rattle.listings.proofs.loading.load_outs.Statement.{statement}
 use Rattle.listings.proofs.loading.load_outs.Tie as tie
-use Rattle.listings.proofs.loading.load_outs.Reads as reads
-use Rattle.listings.proofs.loading.load_outs.Lts as lts
-use Rattle.figures.proofs.line_end.Reads as line-end-reads
-use Rattle.forms.proofs.form_at.Reads as form-at-reads
-use Rattle.listings.proofs.loading.load_end.Reads as load-end-reads
-use Rattle.listings.proofs.loading.no_outputs.Reads as no-outputs-reads
-use Rattle.listings.proofs.loading.stand_fault.Reads as stand-fault-reads
 
 abbrev Inv-loop : tie.InvT-loop
 Inv-loop text at line s outs₀ next₀ number₀ j₀ outs next number j = Standing text s at line outs next number j
@@ -75,27 +60,30 @@ returns-2 c =
     c .no-outputs2 .ensures ∙ sym (ap outputsOf (standing-fault (l .loop .inv) h f e _ (c .before .before .stand-fault .ensures) (c .before .if2 .taken) codes))
 
 cast-outs : tie.Need-cast-outs Inv-loop μ-loop
+unfolding maxRows
 cast-outs c =
     let l = c .before .before .before .before .before .before .before .before .before in
     let a = c .before .before .before .before .before .before .before .before .before .before .before .args in
-    let z = sizes-small (a .s) (c .before .before .before .before .before .before .before .before .before .before .before .pre .0) in
+    let z = ranged (a .s) (c .before .before .before .before .before .before .before .before .before .before .before .pre .0) in
     let e = sym (c .before .before .before .before .before .before .form-at .ensures) ∙ c .before .before .before .before .f .given .1 in
     let f = c .before .before .before .before .f .given .0 .0 in
     let h = c .before .before .before .before .before .before .before .if1 .taken in
     omega (arith, target-small (l .loop .inv) h f e _ z (c .before .before .stand-fault .ensures) (c .before .if2 .left))
 
 mul-outs : tie.Need-mul-outs Inv-loop μ-loop
+unfolding maxOutputs
 mul-outs c =
     let l = c .before .before .before .before .before .before .before .before .before in
     let a = c .before .before .before .before .before .before .before .before .before .before .before .args in
-    let z = sizes-small (a .s) (c .before .before .before .before .before .before .before .before .before .before .before .pre .0) in
+    let z = ranged (a .s) (c .before .before .before .before .before .before .before .before .before .before .before .pre .0) in
     omega (arith, z .outputs-most)
 
 array-write-outs : tie.Need-array-write-outs Inv-loop μ-loop
+unfolding maxOutputs
 array-write-outs c =
     let l = c .before .before .before .before .before .before .before .before .before in
     let a = c .before .before .before .before .before .before .before .before .before .before .before .args in
-    let z = sizes-small (a .s) (c .before .before .before .before .before .before .before .before .before .before .before .pre .0) in
+    let z = ranged (a .s) (c .before .before .before .before .before .before .before .before .before .before .before .pre .0) in
     omega (arith, z .outputs-most)
 
 line-end-requires : tie.Need-line-end-requires Inv-loop μ-loop
@@ -112,17 +100,19 @@ add-next c =
     omega (arith, standing-inside (l .loop .inv) h f e)
 
 add-number : tie.Need-add-number Inv-loop μ-loop
+unfolding maxOutputs
 add-number c =
     let l = c .before .before .before .before .before .before .before .before .before .before in
     let a = c .before .before .before .before .before .before .before .before .before .before .before .before .args in
-    let z = sizes-small (a .s) (c .before .before .before .before .before .before .before .before .before .before .before .before .pre .0) in
+    let z = ranged (a .s) (c .before .before .before .before .before .before .before .before .before .before .before .before .pre .0) in
     omega (arith, l .loop .inv .lines, z .outputs-most)
 
 add-j : tie.Need-add-j Inv-loop μ-loop
+unfolding maxOutputs
 add-j c =
     let l = c .before .before .before .before .before .before .before .before .before .before in
     let a = c .before .before .before .before .before .before .before .before .before .before .before .before .args in
-    let z = sizes-small (a .s) (c .before .before .before .before .before .before .before .before .before .before .before .before .pre .0) in
+    let z = ranged (a .s) (c .before .before .before .before .before .before .before .before .before .before .before .before .pre .0) in
     omega (arith, z .outputs-most)
 
 loop-less : tie.Need-loop-less Inv-loop μ-loop
@@ -132,7 +122,7 @@ loop-again : tie.Need-loop-again Inv-loop μ-loop
 loop-again c =
     let l = c .before .before .before .before .before .before .before .before .before .before in
     let a = c .before .before .before .before .before .before .before .before .before .before .before .before .args in
-    let z = sizes-small (a .s) (c .before .before .before .before .before .before .before .before .before .before .before .before .pre .0) in
+    let z = ranged (a .s) (c .before .before .before .before .before .before .before .before .before .before .before .before .pre .0) in
     let e = sym (c .before .before .before .before .before .before .before .form-at .ensures) ∙ c .before .before .before .before .before .f .given .1 in
     let f = c .before .before .before .before .before .f .given .0 .0 in
     let h = c .before .before .before .before .before .before .before .before .if1 .taken in
@@ -140,10 +130,11 @@ loop-again c =
     rw k (standing-more (l .loop .inv) h f e _ z (c .before .before .before .stand-fault .ensures) (c .before .before .if2 .left))
 
 load-end-requires : tie.Need-load-end-requires Inv-loop μ-loop
+unfolding maxOutputs
 load-end-requires c κs =
     let l = c .before .before in
     let a = c .before .before .before .before .args in
-    let z = sizes-small (a .s) (c .before .before .before .before .pre .0) in
+    let z = ranged (a .s) (c .before .before .before .before .pre .0) in
     omega (arith, l .loop .inv .lines, l .loop .inv .most, z .outputs-most)
 
 returns-3 : tie.Need-returns-3 Inv-loop μ-loop

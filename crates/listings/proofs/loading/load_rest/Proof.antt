@@ -1,26 +1,14 @@
 -- `listings::loading::load_rest` meets its contract: the cell lines, then the output lines and the last line, then ground 14. Assumes
 -- nothing.
 use borrow.Author.Needs.{needs}
-use Prim.Native.Nat.{ℕ}
-use mathlib.Core.Path.{_≡_, sym, ap, _∙_}
-use mathlib.Core.List.{List, []}
+use mathlib.Core.Path.{_≡_}
 use native.Mathlib.Omega.{arith}
-use lib.ListN.{length, drop}
-use Rattle.common.specs.Outcome.{_then_}
-use Rattle.common.proofs.Outcome.{then-is}
-use Rattle.figures.specs.Line.{linesOf}
-use Rattle.listings.specs.Loading.{fitted, loadCells}
-use Rattle.listings.specs.Loader.{listed, Handed, kept}
-use Rattle.listings.proofs.Steps.{sizes-small}
+use lib.ListN.{length}
+use Rattle.common.specs.Limits.{maxRows, maxColumns}
+use Rattle.listings.proofs.Steps.{ranged, cells-most}
 use Rattle.listings.proofs.Handing.{then-refused, handed-as, handed-end, cells-line, cells-refused, rest-refused, rest-done}
 use Rattle.listings.proofs.loading.load_rest.Statement.{statement}
 use Rattle.listings.proofs.loading.load_rest.Tie as tie
-use Rattle.listings.proofs.loading.load_rest.Reads as reads
-use Rattle.listings.proofs.loading.load_rest.Lts as lts
-use Rattle.listings.proofs.loading.finish.Reads as finish-reads
-use Rattle.listings.proofs.loading.load_cells.Reads as load-cells-reads
-use Rattle.listings.proofs.loading.load_outs.Reads as load-outs-reads
-use Rattle.listings.proofs.loading.refuse.Reads as refuse-reads
 
 load-cells-requires : tie.Need-load-cells-requires
 load-cells-requires c κs = search needs
@@ -35,11 +23,12 @@ enum-known-next : tie.Need-enum-known-next
 enum-known-next c = search needs
 
 load-outs-requires : tie.Need-load-outs-requires
+unfolding maxRows maxColumns
 load-outs-requires c κs =
     let a = c .before .before .before .before .before .before .before .before .before .args in
-    let z = sizes-small (a .s) (c .before .before .before .before .before .before .before .before .before .pre .0) in
+    let z = ranged (a .s) (c .before .before .before .before .before .before .before .before .before .pre .0) in
     let d = cells-line (c .before .before .before .before .before .load-cells .ensures) (c .before .next .given .1) in
-    (c .before .before .before .before .before .before .before .before .before .pre .0, omega (arith, d .lines, d .short, z .cells-most))
+    (c .before .before .before .before .before .before .before .before .before .pre .0, omega (arith, d .lines, d .short, cells-most (a .s) z))
 
 finish-requires : tie.Need-finish-requires
 finish-requires c κs = search needs

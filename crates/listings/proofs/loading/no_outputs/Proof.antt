@@ -4,8 +4,6 @@ use Rattle.common.specs.Limits.{maxOutputs}
 use Rattle.listings.specs.Loader.{outputsOf}
 use Rattle.listings.proofs.loading.no_outputs.Statement.{statement}
 use Rattle.listings.proofs.loading.no_outputs.Tie as tie
-use Rattle.listings.proofs.loading.no_outputs.Reads as reads
-use Rattle.listings.proofs.loading.no_outputs.Lts as lts
 
 returns : tie.Need-returns
 unfolding outputsOf maxOutputs

@@ -1,20 +1,22 @@
 -- `listings::loading::place_of` meets its contract: the product of two numbers up to 128 fits. Assumes nothing.
 use borrow.Author.Needs.{needs}
 use native.Mathlib.Omega.{arith}
-use Rattle.listings.proofs.Steps.{product-small}
+use Rattle.common.specs.Limits.{maxRows, maxColumns}
+use Rattle.listings.proofs.Steps.{product-most}
 use Rattle.listings.proofs.loading.place_of.Statement.{statement}
 use Rattle.listings.proofs.loading.place_of.Tie as tie
-use Rattle.listings.proofs.loading.place_of.Reads as reads
-use Rattle.listings.proofs.loading.place_of.Lts as lts
 
 mul-result : tie.Need-mul-result
-mul-result c = let a = c .before .args in omega (arith, product-small (a .row) (a .s .columns) (omega arith) (omega arith))
+unfolding maxRows maxColumns
+mul-result c = let a = c .before .args in omega (arith, product-most (a .row) (a .s .columns) maxRows maxColumns (omega arith) (omega arith))
 
 add-result : tie.Need-add-result
-add-result c = let a = c .before .args in omega (arith, product-small (a .row) (a .s .columns) (omega arith) (omega arith))
+unfolding maxRows maxColumns
+add-result c = let a = c .before .args in omega (arith, product-most (a .row) (a .s .columns) maxRows maxColumns (omega arith) (omega arith))
 
 cast-result : tie.Need-cast-result
-cast-result c = let a = c .before .args in omega (arith, product-small (a .row) (a .s .columns) (omega arith) (omega arith))
+unfolding maxRows maxColumns
+cast-result c = let a = c .before .args in omega (arith, product-most (a .row) (a .s .columns) maxRows maxColumns (omega arith) (omega arith))
 
 returns : tie.Need-returns
 returns c = search needs

@@ -7,9 +7,6 @@ use Rattle.cells.specs.Record.{no-record}
 use Rattle.listings.specs.Loader.{loadedOf}
 use Rattle.listings.proofs.loading.refuse.Statement.{statement}
 use Rattle.listings.proofs.loading.refuse.Tie as tie
-use Rattle.listings.proofs.loading.refuse.Reads as reads
-use Rattle.listings.proofs.loading.refuse.Lts as lts
-use Rattle.common.proofs.clear.Reads as clear-reads
 
 clear-requires : tie.Need-clear-requires
 clear-requires c κs = search needs

@@ -8,8 +8,6 @@ use Rattle.cells.specs.Record.{inRange}
 use Rattle.listings.specs.Loading.{sizeFault}
 use Rattle.listings.proofs.loading.size_fault.Statement.{statement}
 use Rattle.listings.proofs.loading.size_fault.Tie as tie
-use Rattle.listings.proofs.loading.size_fault.Reads as reads
-use Rattle.listings.proofs.loading.size_fault.Lts as lts
 
 returns : tie.Need-returns
 unfolding sizeFault lowest inRange

@@ -1,12 +1,9 @@
 -- `listings::loading::stand_fault` meets its contract. Assumes nothing.
 use borrow.Author.Needs.{needs}
 use mathlib.Core.Path.{sym, _∙_}
-use native.Mathlib.Omega.{arith}
 use Rattle.listings.proofs.Steps.{out-of-turn, stand-out, stand-in}
 use Rattle.listings.proofs.loading.stand_fault.Statement.{statement}
 use Rattle.listings.proofs.loading.stand_fault.Tie as tie
-use Rattle.listings.proofs.loading.stand_fault.Reads as reads
-use Rattle.listings.proofs.loading.stand_fault.Lts as lts
 
 cast-if1 : tie.Need-cast-if1
 cast-if1 c = search needs

@@ -4,8 +4,6 @@ use mathlib.Core.Path.{sym}
 use lib.Seq.{set-out}
 use Rattle.listings.proofs.loading.store.Statement.{statement}
 use Rattle.listings.proofs.loading.store.Tie as tie
-use Rattle.listings.proofs.loading.store.Reads as reads
-use Rattle.listings.proofs.loading.store.Lts as lts
 
 slice-write-cells : tie.Need-slice-write-cells
 slice-write-cells c = search needs

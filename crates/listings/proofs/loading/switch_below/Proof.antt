@@ -4,8 +4,6 @@ use mathlib.Core.Path.{sym, ap}
 use Rattle.listings.specs.Loading.{switchBelow}
 use Rattle.listings.proofs.loading.switch_below.Statement.{statement}
 use Rattle.listings.proofs.loading.switch_below.Tie as tie
-use Rattle.listings.proofs.loading.switch_below.Reads as reads
-use Rattle.listings.proofs.loading.switch_below.Lts as lts
 
 enum-told : tie.Need-enum-told
 enum-told c = search needs
