@@ -1,10 +1,12 @@
 -- The five calls as the buyer's C program meets them, on numbers and byte slices. Each answers one number: the refusal's number times
 -- 2 to the 56th, plus the line; or, where nothing is refused, the call's value.
-use Prim.Native.Nat.{ℕ, _+_, _*_, _^_}
-use mathlib.Core.Bool.{not}
+use Prim.Native.Nat.{ℕ, _+_, _*_, _^_, _≤_}
+use mathlib.Core.Path.{_≡_}
+use mathlib.Core.Bool.{Bool, true, false, not}
 use mathlib.Core.List.{List, [], _∷_}
 use lib.ListN.{length}
 use lib.Dec.{eqb, ltb}
+use Rattle.common.specs.declared.Refusal.{Refusal}
 use Rattle.common.specs.Outcome.{Outcome, done, refused, _then_, _when_, lowest, unless, bufferOf}
 use Rattle.cells.specs.Record.{Whole, size}
 use Rattle.jobs.specs.Job.{walk}
@@ -18,6 +20,19 @@ use Rattle.crossbar.specs.Bytes.{recordLength, recordBytes, recordFrom}
 unfoldable pub packed : {A : Type 0} → (A → ℕ) → Outcome A → ℕ
 packed value (done a) = value a
 packed value (refused k n) = k * 2 ^ 56 + n
+
+-- the largest number of a refusal
+unfoldable pub mostNumber : ℕ
+mostNumber = 15
+
+-- an outcome that is done, or whose number is one of 1 to 15
+pub data Numbered {A : Type 0} : Outcome A → Type 0 where
+  of-done : (a : A) → Numbered (done a)
+  of-refused : {k n : ℕ} → 1 ≤ k → k ≤ mostNumber → Numbered (refused k n)
+
+-- the same number from the refusal and the value that a call hands over
+unfoldable pub answerOf : Refusal → ℕ → ℕ
+answerOf r value = elim (eqb (r .number) 0) [ true ↦ value | false ↦ r .number * 2 ^ 56 + r .line ]
 
 -- a crossbar for two buffers: ground 14 also where the record's is shorter than a record, line 0
 unfoldable pub forRecord : ℕ → Outcome Whole → Outcome Whole
@@ -33,6 +48,12 @@ recordBuffer n o = bufferOf n (λ w. recordBytes (w .head)) o
 
 unfoldable pub cellsBuffer : ℕ → Outcome Whole → List ℕ
 cellsBuffer n o = bufferOf n (λ w. w .codes) o
+
+-- what is handed over for a crossbar: the answer, and every byte of the record's buffer and of the cells' buffer, of n and m bytes
+pub record Delivered (o : Outcome Whole) (n m r : ℕ) (head cells : List ℕ) : Type 0 where
+  pub answer : r ≡ packed cellsDue o
+  pub record-bytes : head ≡ recordBuffer n o
+  pub cell-bytes : cells ≡ cellsBuffer m o
 
 -- map: job text, and the lengths of the two buffers
 unfoldable pub hostMap : List ℕ → ℕ → ℕ → Outcome Whole

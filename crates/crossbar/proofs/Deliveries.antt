@@ -1,0 +1,126 @@
+-- What map and load hand over for a crossbar: a refusal from beneath, ground 14 on the record's buffer, or the record and the cells.
+-- Assumes nothing.
+use Prim.Native.Nat.{ℕ, zero, suc, _+_, _*_, _^_, _≤_, _<_}
+use mathlib.Core.Path.{_≡_, refl, sym, ap, _∙_}
+use mathlib.Core.List.{List, [], _∷_}
+use native.Mathlib.Omega.{arith}
+use lib.ListN.{length}
+use lib.Dec.{ltb, eqb}
+use borrow.Author.Tests.{lt-ltb, le-ltb, ne-eqb}
+use Rattle.common.specs.declared.Refusal.{Refusal}
+use Rattle.common.specs.Lists.{zeros, padded}
+use Rattle.common.specs.Outcome.{Outcome, done, refused, _then_, lowest, unless, numberOf, lineOf, refusalOf, valueOf, bufferOf}
+use Rattle.cells.specs.declared.Crossbar.{Crossbar}
+use Rattle.cells.specs.Record.{Whole, no-record, size}
+use Rattle.placement.specs.declared.Mapped.{Mapped}
+use Rattle.placement.specs.Map.{mapJob}
+use Rattle.placement.specs.Answer.{mapped, MapAnswers}
+use Rattle.listings.specs.declared.loading.Loaded.{Loaded}
+use Rattle.listings.specs.Loading.{load}
+use Rattle.listings.specs.Loader.{loadedOf, Handed}
+use Rattle.crossbar.specs.Bytes.{recordLength, recordBytes}
+use Rattle.crossbar.specs.Host.{packed, mostNumber, Numbered, of-done, of-refused, answerOf, forRecord, cellsDue, recordBuffer, cellsBuffer, Delivered}
+use Rattle.crossbar.proofs.Numbers.{number-most, map-numbered, load-numbered}
+
+-- the number of an outcome, from the refusal
+number-of : {A : Type 0} (refusal : Refusal) (o : Outcome A) → refusal ≡ refusalOf o → refusal .number ≡ numberOf o
+unfolding refusalOf
+number-of refusal o e = ap (λ (r : Refusal). r .number) e
+
+module _ (refusal : Refusal) (x : Crossbar) (n m r : ℕ) (held head cells : List ℕ) where
+  -- refused beneath
+  pub delivered-refused :
+      (o : Outcome Whole)
+      → (refusal .number ≡ 0 → ⊥)
+      → r ≡ answerOf refusal 0
+      → head ≡ zeros n
+      → cells ≡ held
+      → Numbered o
+      → refusal ≡ refusalOf o
+      → held ≡ cellsBuffer m o
+      → Delivered (forRecord n o) n m r head cells
+  unfolding forRecord _then_ packed recordBuffer cellsBuffer bufferOf answerOf refusalOf numberOf lineOf
+  delivered-refused (done w) some a z k p e b = absurd (some (number-of refusal (done w) e))
+  delivered-refused (refused i l) some a z k p e b =
+      let other = ne-eqb (refusal .number) 0 some in
+      let number = ap (λ (q : Refusal). q .number) e in
+      let line = ap (λ (q : Refusal). q .line) e in
+      record { answer = a ∙ rw (other, answerOf) (rw (number, line)); record-bytes = z; cell-bytes = k ∙ b }
+
+  -- the record's buffer is too short
+  pub delivered-short :
+      (o : Outcome Whole)
+      → refusal .number ≡ 0
+      → n < recordLength
+      → r ≡ 14 * 2 ^ 56
+      → head ≡ zeros n
+      → cells ≡ zeros m
+      → Numbered o
+      → refusal ≡ refusalOf o
+      → Delivered (forRecord n o) n m r head cells
+  unfolding forRecord _then_ lowest unless packed recordBuffer cellsBuffer bufferOf numberOf
+  delivered-short (done w) none short a z k p e =
+      let t = lt-ltb n recordLength short in
+      record { answer = rw (t, forRecord) a; record-bytes = rw t z; cell-bytes = rw t k }
+  delivered-short (refused i l) none short a z k (of-refused low high) e =
+      absurd (omega (arith, number-of refusal (refused i l) e))
+
+  -- record and cells
+  pub delivered-done :
+      (o : Outcome Whole)
+      → refusal .number ≡ 0
+      → recordLength ≤ n
+      → r ≡ x .rows * x .columns
+      → head ≡ padded n (recordBytes x)
+      → cells ≡ held
+      → Numbered o
+      → refusal ≡ refusalOf o
+      → x ≡ valueOf no-record (λ w. w .head) o
+      → held ≡ cellsBuffer m o
+      → Delivered (forRecord n o) n m r head cells
+  unfolding forRecord _then_ lowest unless packed recordBuffer cellsBuffer bufferOf numberOf valueOf cellsDue size
+  delivered-done (done w) none room a z k p e f b =
+      let t = le-ltb n recordLength room in
+      record { answer = rw t (rw f at a); record-bytes = rw t (rw f at z); cell-bytes = rw t (k ∙ b) }
+  delivered-done (refused i l) none room a z k (of-refused low high) e f b =
+      absurd (omega (arith, number-of refusal (refused i l) e))
+
+-- what map and load hand over to it
+pub record Beneath (o : Outcome Whole) (m : ℕ) (refusal : Refusal) (x : Crossbar) (cells : List ℕ) : Type 0 where
+  pub numbered : Numbered o
+  pub low : refusal .number ≤ mostNumber
+  pub refusal-is : refusal ≡ refusalOf o
+  pub record-is : x ≡ valueOf no-record (λ w. w .head) o
+  pub cells-are : cells ≡ cellsBuffer m o
+
+pub map-beneath :
+    (text before after : List ℕ) (r : Mapped)
+    → MapAnswers text before after r
+    → Beneath (mapJob text (length before)) (length before) (r .refusal) (r .head) after
+unfolding mapped cellsBuffer
+map-beneath text before after r a =
+    let o = mapJob text (length before) in
+    let numbered = map-numbered text (length before) in
+    record {
+      numbered = numbered;
+      low = rw (a .answer) (number-most o numbered);
+      refusal-is = ap (λ (q : Mapped). q .refusal) (a .answer);
+      record-is = ap (λ (q : Mapped). q .head) (a .answer);
+      cells-are = a .cells;
+    }
+
+pub load-beneath :
+    (text : List ℕ) (room : ℕ) (r : Loaded) (cells : List ℕ)
+    → Handed (load text room) room r cells
+    → Beneath (load text room) room (r .refusal) (r .head) cells
+unfolding loadedOf cellsBuffer
+load-beneath text room r cells a =
+    let o = load text room in
+    let numbered = load-numbered text room in
+    record {
+      numbered = numbered;
+      low = rw (a .answer) (number-most o numbered);
+      refusal-is = ap (λ (q : Loaded). q .refusal) (a .answer);
+      record-is = ap (λ (q : Loaded). q .head) (a .answer);
+      cells-are = a .buffer;
+    }

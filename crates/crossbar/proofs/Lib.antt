@@ -1,0 +1,4 @@
+pub mod Pairs
+pub mod Numbers
+pub mod Calls
+pub mod Deliveries

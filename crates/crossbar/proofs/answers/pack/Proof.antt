@@ -1,0 +1,43 @@
+-- `crossbar::answers::pack` meets its contract: a number of at most 15 leaves room for every line. Assumes nothing.
+use Prim.Native.Nat.{ℕ, _+_, _*_, _^_}
+use mathlib.Core.Path.{_≡_}
+use native.Mathlib.Omega.{arith}
+use borrow.Author.Tests.{eq-eqb, ne-eqb}
+use borrow.Author.Needs.{needs}
+use Rattle.common.specs.declared.Refusal.{Refusal}
+use Rattle.crossbar.specs.Host.{mostNumber, answerOf}
+use Rattle.crossbar.proofs.answers.pack.Statement.{statement}
+use Rattle.crossbar.proofs.answers.pack.Tie as tie
+
+by-value : (r : Refusal) (value : ℕ) → r .number ≡ 0 → value ≡ answerOf r value
+unfolding answerOf
+by-value r value e = rw (eq-eqb (r .number) 0 e, answerOf)
+
+by-number : (r : Refusal) (value : ℕ) → (r .number ≡ 0 → ⊥) → r .number * 2 ^ 56 + r .line ≡ answerOf r value
+unfolding answerOf
+by-number r value e = rw (ne-eqb (r .number) 0 e, answerOf)
+
+returns : tie.Need-returns
+returns c = by-value (c .before .before .args .refusal) (c .before .before .args .value) (c .if1 .taken)
+
+cast-result : tie.Need-cast-result
+cast-result c = search needs
+
+mul-result : tie.Need-mul-result
+unfolding mostNumber
+mul-result c = search needs
+
+cast-result-2 : tie.Need-cast-result-2
+cast-result-2 c = search needs
+
+add-result : tie.Need-add-result
+unfolding mostNumber
+add-result c = search needs
+
+returns-2 : tie.Need-returns-2
+returns-2 c =
+    let start = c .before .before .before .before in
+    by-number (start .args .refusal) (start .args .value) (c .before .before .if1 .left)
+
+pub pack-spec : {M : Type 1} → statement M
+pack-spec = tie.close (tie.spec returns cast-result mul-result cast-result-2 add-result returns-2)

@@ -1,0 +1,61 @@
+// One number for an outcome: the refusal's number in the highest byte and its line, or the call's value.
+use crate::bytes::RECORD_BYTES;
+use crate::bytes::write_record;
+use cells::Crossbar;
+use common::Refusal;
+use common::clear;
+ghost use mathlib.Core.Path.{_≡_};
+ghost use Prim.Native.Nat.{ℕ, _+_, _*_, _^_, _≤_};
+ghost use lib.ListN.{length};
+ghost use Rattle.common.specs.Lists.{zeros};
+ghost use Rattle.common.specs.Outcome.{Outcome, refusalOf, valueOf};
+ghost use Rattle.cells.specs.Record.{Whole, no-record};
+ghost use Rattle.crossbar.specs.Host.{mostNumber, Numbered, answerOf, forRecord, cellsBuffer, Delivered};
+
+// What the number of a refusal counts for in an answer: 2 to the 56th.
+const NUMBER_UNIT: u64 = 72057594037927936;
+
+// The answer for a refusal, or for a value where nothing is refused.
+pub fn pack(refusal: Refusal, value: u64) -> u64
+    requires { ⌜ refusal .number ≤ mostNumber ⌝ }
+    ensures { λ r. ⌜ r ≡ answerOf refusal value ⌝ }
+{
+    if refusal.number == 0 {
+        return value;
+    }
+    (refusal.number as u64) * NUMBER_UNIT + refusal.line as u64
+}
+
+// A refusal by a number, line 0: the answer, and zeros in the whole buffer.
+pub fn refuse(out: &mut [u8], number: u32) -> u64
+    requires { ⌜ number ≤ mostNumber ⌝ }
+    ensures { λ r. ⌜ (r ≡ number * 2 ^ 56) × (now (out .exit) ≡ zeros (length (now (out .entry)))) ⌝ }
+{
+    clear(out);
+    (number as u64) * NUMBER_UNIT
+}
+
+// A crossbar for two buffers, of which the cells' buffer holds the cells: ground 14 also where the record's buffer is shorter than a
+// record.
+pub fn deliver(refusal: Refusal, x: Crossbar, head: &mut [u8], cells: &mut [u8]) -> u64
+    requires { ⌜ refusal .number ≤ mostNumber ⌝ }
+    ensures { λ r.
+        ⌜ ((o : Outcome Whole) (m : ℕ)
+        → Numbered o
+        → refusal ≡ refusalOf o
+        → x ≡ valueOf no-record (λ w. w .head) o
+        → length (now (cells .entry)) ≡ m
+        → now (cells .entry) ≡ cellsBuffer m o
+        → Delivered (forRecord (length (now (head .entry))) o) (length (now (head .entry))) m r (now (head .exit)) (now (cells .exit))) ⌝ }
+{
+    if refusal.number != 0 {
+        clear(head);
+        return pack(refusal, 0);
+    }
+    if head.len() < RECORD_BYTES {
+        clear(cells);
+        return refuse(head, 14);
+    }
+    write_record(head, x);
+    (x.rows as u64) * (x.columns as u64)
+}

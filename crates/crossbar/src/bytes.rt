@@ -1,0 +1,85 @@
+// The crossbar record as bytes: R, C, V, K and the 32 output rows, two bytes a number, low byte first.
+use cells::Crossbar;
+use common::MAX_OUTPUTS;
+ghost use mathlib.Core.Path.{_≡_};
+ghost use mathlib.Core.List.{List, [], _∷_, _++_};
+ghost use Prim.Native.Nat.{ℕ, _+_, _*_, _≤_, _<_};
+ghost use lib.ListN.{length};
+ghost use Rattle.common.specs.Lists.{padded};
+ghost use Rattle.crossbar.specs.Bytes.{recordLength, pairs, recordBytes, numberAt, recordFrom};
+
+// How many bytes a record has.
+pub const RECORD_BYTES: usize = 2 * (4 + MAX_OUTPUTS);
+
+// The number at place i of bytes.
+fn number_at(s: &[u8], i: usize) -> u16
+    requires { ⌜ 2 * i + 1 < length (now s) ⌝ }
+    ensures { λ r. ⌜ r ≡ numberAt (now (s .entry)) i ⌝ }
+{
+    (s[2 * i] as u16) + 256 * (s[2 * i + 1] as u16)
+}
+
+// The record that bytes hold.
+pub fn read_record(s: &[u8]) -> Crossbar
+    requires { ⌜ recordLength ≤ length (now s) ⌝ }
+    ensures { λ r. ⌜ r ≡ recordFrom (now (s .entry)) ⌝ }
+{
+    let mut outs = [0u16; MAX_OUTPUTS];
+    let mut j = 0;
+    while j < MAX_OUTPUTS {
+        outs[j] = number_at(s, 4 + j);
+        j += 1;
+    }
+    Crossbar {
+        rows: number_at(s, 0),
+        columns: number_at(s, 1),
+        switches: number_at(s, 2),
+        outputs: number_at(s, 3),
+        outs,
+    }
+}
+
+// One number more, past the i numbers that a buffer holds.
+fn put_number(out: &mut [u8], i: usize, n: u16)
+    requires { ⌜ 2 * i + 1 < length (now out) ⌝ }
+    ensures { λ r.
+        ⌜ ((m : ℕ) (ns : List ℕ)
+        → length ns ≡ i
+        → 2 * i + 1 < m
+        → now (out .entry) ≡ padded m (pairs ns)
+        → now (out .exit) ≡ padded m (pairs (ns ++ (n ∷ [])))) ⌝ }
+{
+    out[2 * i] = (n % 256) as u8;
+    out[2 * i + 1] = (n / 256) as u8;
+}
+
+// The output rows, past the four numbers that a buffer holds.
+fn put_outs(out: &mut [u8], outs: [u16; MAX_OUTPUTS])
+    requires { ⌜ recordLength ≤ length (now out) ⌝ }
+    ensures { λ r.
+        ⌜ ((m : ℕ) (ns : List ℕ)
+        → length ns ≡ 4
+        → recordLength ≤ m
+        → now (out .entry) ≡ padded m (pairs ns)
+        → now (out .exit) ≡ padded m (pairs (ns ++ outs))) ⌝ }
+{
+    let mut j = 0;
+    while j < MAX_OUTPUTS {
+        put_number(out, 4 + j, outs[j]);
+        j += 1;
+    }
+}
+
+// A record's bytes into a buffer, and zeros past them.
+pub fn write_record(out: &mut [u8], x: Crossbar)
+    requires { ⌜ recordLength ≤ length (now out) ⌝ }
+    ensures { λ r. ⌜ now (out .exit) ≡ padded (length (now (out .entry))) (recordBytes x) ⌝ }
+{
+    common::clear(out);
+    put_number(out, 0, x.rows);
+    put_number(out, 1, x.columns);
+    put_number(out, 2, x.switches);
+    put_number(out, 3, x.outputs);
+    let outs = x.outs;
+    put_outs(out, outs);
+}
