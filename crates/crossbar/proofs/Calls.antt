@@ -1,21 +1,18 @@
 -- The calls of the host library: the answer and every byte lent, from what the calls beneath hand over. Assumes nothing.
-use Prim.Native.Nat.{ℕ, zero, suc, _+_, _*_, _^_, _≤_, _<_}
-use mathlib.Core.Path.{_≡_, refl, sym, ap, _∙_}
-use mathlib.Core.Bool.{Bool, true, false, not}
-use mathlib.Core.List.{List, [], _∷_}
-use native.Mathlib.Omega.{arith}
+use Prim.Native.Nat.{ℕ, _*_, _^_, _≤_}
+use mathlib.Core.Path.{_≡_, sym, ap}
+use mathlib.Core.List.{List}
 use lib.ListN.{length}
-use lib.Dec.{eqb, ltb}
 use borrow.Author.Tests.{eq-eqb, ne-eqb}
 use Rattle.common.specs.declared.Refusal.{Refusal}
 use Rattle.common.specs.Lists.{zeros}
-use Rattle.common.specs.Outcome.{Outcome, done, refused, _then_, _when_, lowest, unless, refusalOf, valueOf, bufferOf}
+use Rattle.common.specs.Outcome.{Outcome, refused, lowest, unless, refusalOf, valueOf, bufferOf}
 use Rattle.cells.specs.declared.Crossbar.{Crossbar}
 use Rattle.jobs.specs.declared.Walked.{Walked}
 use Rattle.jobs.specs.Answer.{walked}
 use Rattle.jobs.specs.Job.{walk}
 use Rattle.conduction.specs.declared.Lighted.{Lighted}
-use Rattle.conduction.specs.Light.{Lit, light, lighted, Answers}
+use Rattle.conduction.specs.Light.{light, lighted, Answers}
 use Rattle.listings.specs.declared.printing.Printed.{Printed}
 use Rattle.listings.specs.Listing.{print}
 use Rattle.listings.specs.Printing.{printedOf, Answered}
@@ -37,7 +34,7 @@ other-length : {A : Type 0} (s : List ℕ) (rest : Outcome A) → (length s ≡ 
 unfolding ofRecord lowest unless
 other-length s rest h = rw (ne-eqb (length s) recordLength h)
 
-own-length : {A : Type 0} (s : List ℕ) (rest : Outcome A) → length s ≡ recordLength → ofRecord s rest ≡ rest
+pub own-length : {A : Type 0} (s : List ℕ) (rest : Outcome A) → length s ≡ recordLength → ofRecord s rest ≡ rest
 unfolding ofRecord lowest unless
 own-length s rest h = rw (eq-eqb (length s) recordLength h)
 

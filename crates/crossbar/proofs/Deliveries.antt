@@ -1,11 +1,10 @@
 -- What map and load hand over for a crossbar: a refusal from beneath, ground 14 on the record's buffer, or the record and the cells.
 -- Assumes nothing.
-use Prim.Native.Nat.{ℕ, zero, suc, _+_, _*_, _^_, _≤_, _<_}
-use mathlib.Core.Path.{_≡_, refl, sym, ap, _∙_}
-use mathlib.Core.List.{List, [], _∷_}
+use Prim.Native.Nat.{ℕ, _*_, _^_, _≤_, _<_}
+use mathlib.Core.Path.{_≡_, ap, _∙_}
+use mathlib.Core.List.{List}
 use native.Mathlib.Omega.{arith}
 use lib.ListN.{length}
-use lib.Dec.{ltb, eqb}
 use borrow.Author.Tests.{lt-ltb, le-ltb, ne-eqb}
 use Rattle.common.specs.declared.Refusal.{Refusal}
 use Rattle.common.specs.Lists.{zeros, padded}
@@ -19,7 +18,7 @@ use Rattle.listings.specs.declared.loading.Loaded.{Loaded}
 use Rattle.listings.specs.Loading.{load}
 use Rattle.listings.specs.Loader.{loadedOf, Handed}
 use Rattle.crossbar.specs.Bytes.{recordLength, recordBytes}
-use Rattle.crossbar.specs.Host.{packed, mostNumber, Numbered, of-done, of-refused, answerOf, forRecord, cellsDue, recordBuffer, cellsBuffer, Delivered}
+use Rattle.crossbar.specs.Host.{packed, mostNumber, Numbered, of-refused, answerOf, forRecord, cellsDue, recordBuffer, cellsBuffer, Delivered}
 use Rattle.crossbar.proofs.Numbers.{number-most, map-numbered, load-numbered}
 
 -- the number of an outcome, from the refusal

@@ -2,3 +2,4 @@ pub mod Pairs
 pub mod Numbers
 pub mod Calls
 pub mod Deliveries
+pub mod ReadBack

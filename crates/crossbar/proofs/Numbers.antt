@@ -1,32 +1,30 @@
 -- Every refusal's number is one of 1 to 15, for each of the outcomes that a call hands over; so the number, the line and the value of an
 -- outcome make its answer. Assumes nothing.
-use Prim.Native.Nat.{ℕ, zero, suc, _+_, _*_, _^_, _≤_, _<_}
-use mathlib.Core.Path.{_≡_, refl, sym, ap, _∙_}
-use mathlib.Core.Bool.{Bool, true, false, not, _&&_}
+use Prim.Native.Nat.{ℕ, zero, suc, _+_, _≤_}
+use mathlib.Core.Path.{_≡_, refl}
+use mathlib.Core.Bool.{Bool, true, false, _&&_}
 use mathlib.Core.Option.{Option, some, none}
 use mathlib.Core.List.{List, [], _∷_}
 use native.Mathlib.Omega.{arith}
-use lib.ListN.{length}
 use lib.Dec.{eqb, leb}
 use borrow.Author.Tests.{leb-true, ne-eqb}
 use Rattle.common.specs.Outcome.{Outcome, done, refused, _then_, Ground, _when_, lowest, unless, numberOf, lineOf, refusalOf, valueOf}
 use Rattle.common.proofs.Lists.{and-left, and-right}
 use Rattle.figures.specs.Line.{Lines, left, _⏎_, linesOf}
 use Rattle.cells.specs.declared.Crossbar.{Crossbar}
-use Rattle.cells.specs.Record.{Whole}
 use Rattle.forms.specs.Template.{Template, values}
 use Rattle.forms.specs.Due.{Taken, due}
 use Rattle.forms.specs.Form.{Placed, placed}
 use Rattle.forms.specs.Forms.{jobForm, oneForm, nodeForm, outForm, endForm, crossbarForm}
 use Rattle.diagram.specs.Diagram.{Diagram}
 use Rattle.diagram.specs.Faults.{headFault, oneFault, nodeFault, outFault}
-use Rattle.jobs.specs.Reading.{Text, readEnd, readOuts, readNodes, readOne, readHead, readText}
+use Rattle.jobs.specs.Reading.{readEnd, readOuts, readNodes, readOne, readHead, readText}
 use Rattle.jobs.specs.Job.{accepted, walk}
 use Rattle.placement.specs.Map.{mapJob}
-use Rattle.conduction.specs.Light.{Lit, light}
+use Rattle.conduction.specs.Light.{light}
 use Rattle.listings.specs.Listing.{print}
-use Rattle.listings.specs.Loading.{Listed, cellFault, withCell, standFault, loadEnd, loadOuts, loadCells, sizeFault, sized, loadFrom, load}
-use Rattle.crossbar.specs.Host.{packed, mostNumber, Numbered, of-done, of-refused, answerOf, ofRecord, hostLight, hostPrint}
+use Rattle.listings.specs.Loading.{Listed, cellFault, withCell, standFault, loadEnd, loadOuts, loadCells, sizeFault, loadFrom, load}
+use Rattle.crossbar.specs.Host.{packed, mostNumber, Numbered, of-done, of-refused, answerOf}
 
 -- whether every number of some grounds is at most 15
 unfoldable pub within : List Ground → Bool

@@ -1,17 +1,14 @@
 -- Numbers as pairs of bytes: one number more in a buffer, and a record's bytes hold that record. Assumes nothing.
-use Prim.Native.Nat.{ℕ, zero, suc, _+_, _-_, _*_, _/_, _%_, _≤_, _<_}
+use Prim.Native.Nat.{ℕ, zero, suc, _+_, _-_, _*_, _/_, _%_, _<_}
 use mathlib.Core.Path.{_≡_, refl, sym, ap, _∙_}
-use mathlib.Core.Bool.{Bool, true}
 use mathlib.Core.List.{List, [], _∷_, _++_, append-assoc}
 use native.Mathlib.Omega.{arith}
 use native.Mathlib.Numerals.{add-one}
 use lib.ListN.{length, getD, take, set, length-append}
 use lib.Seq.{ext-getD, take-suc, length-take-le}
-use lib.Dec.{ltb}
-use borrow.Author.Tests.{lt-ltb, ltb-true}
 use Rattle.common.specs.Limits.{maxOutputs}
-use Rattle.common.specs.Lists.{zeros, padded, tab, all-of}
-use Rattle.common.proofs.Lists.{length-tab, getD-tab, and-left, and-right, and-both}
+use Rattle.common.specs.Lists.{zeros, padded, tab}
+use Rattle.common.proofs.Lists.{length-tab, getD-tab}
 use Rattle.cells.specs.declared.Crossbar.{Crossbar}
 use Rattle.placement.proofs.Heads.{pad-more}
 use Rattle.crossbar.specs.Bytes.{numbersOf, pairs, recordBytes, numberAt, recordFrom}

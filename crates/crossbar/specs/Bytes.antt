@@ -1,6 +1,6 @@
 -- The crossbar record as bytes: R, C, V, K and the 32 output rows, two bytes a number, low byte first.
 use Prim.Native.Nat.{ℕ, _+_, _*_, _/_, _%_}
-use mathlib.Core.List.{List, [], _∷_, _++_}
+use mathlib.Core.List.{List, [], _∷_}
 use lib.ListN.{getD}
 use Rattle.common.specs.Limits.{maxOutputs}
 use Rattle.common.specs.Lists.{tab}

@@ -2,14 +2,13 @@
 -- 2 to the 56th, plus the line; or, where nothing is refused, the call's value.
 use Prim.Native.Nat.{ℕ, _+_, _*_, _^_, _≤_}
 use mathlib.Core.Path.{_≡_}
-use mathlib.Core.Bool.{Bool, true, false, not}
+use mathlib.Core.Bool.{true, false, not}
 use mathlib.Core.List.{List, [], _∷_}
 use lib.ListN.{length}
 use lib.Dec.{eqb, ltb}
 use Rattle.common.specs.declared.Refusal.{Refusal}
 use Rattle.common.specs.Outcome.{Outcome, done, refused, _then_, _when_, lowest, unless, bufferOf}
 use Rattle.cells.specs.Record.{Whole, size}
-use Rattle.jobs.specs.Job.{walk}
 use Rattle.placement.specs.Map.{mapJob}
 use Rattle.conduction.specs.Light.{Lit, light}
 use Rattle.listings.specs.Listing.{print}

@@ -1,7 +1,6 @@
 -- `crossbar::answers::pack` meets its contract: a number of at most 15 leaves room for every line. Assumes nothing.
 use Prim.Native.Nat.{ℕ, _+_, _*_, _^_}
 use mathlib.Core.Path.{_≡_}
-use native.Mathlib.Omega.{arith}
 use borrow.Author.Tests.{eq-eqb, ne-eqb}
 use borrow.Author.Needs.{needs}
 use Rattle.common.specs.declared.Refusal.{Refusal}

@@ -1,7 +1,7 @@
 -- `crossbar::bytes::write_record` meets its contract: the numbers of the record go into a clear buffer in turn. Assumes nothing.
-use Prim.Native.Nat.{ℕ, _≤_}
-use mathlib.Core.Path.{_≡_, refl, _∙_}
-use mathlib.Core.List.{List, [], _∷_}
+use Prim.Native.Nat.{_≤_}
+use mathlib.Core.Path.{refl, _∙_}
+use mathlib.Core.List.{[], _∷_}
 use native.Mathlib.Omega.{arith}
 use lib.ListN.{length}
 use Rattle.common.specs.Limits.{maxOutputs}
