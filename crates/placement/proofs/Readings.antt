@@ -19,6 +19,7 @@ use Rattle.diagram.specs.Walk.{step, walkEnd}
 use Rattle.diagram.specs.Wires.{owners, hasRow, hasColumn, rowOwners, columnOwners, rowOf, columnOf, namesZero, rowCount, columnCount}
 use Rattle.diagram.proofs.Facts.{Facts}
 use Rattle.diagram.proofs.Walk.{step-cases, step-below, walk-zero, walk-one, walk-step}
+use Rattle.conduction.proofs.Chains.{chain-within}
 use Rattle.conduction.specs.Chain.{Wire, row, column, Chain, here, across, back, Within}
 use Rattle.placement.specs.Placement.{edge, meeting, cells, outRow}
 use Rattle.placement.proofs.Owners.{owner-below, number-injective}
@@ -83,13 +84,6 @@ owner-within d has r =
     (λ (k : length (owners has (idCount d)) ≤ r). rw (List·getD-eq-default (owners has (idCount d)) 0 k) (omega (arith, one-within d)))
     (below-or-not r (length (owners has (idCount d))))
 
--- a chain stays on the wires
-chain-within : {m n : ℕ} {j : ℕ → ℕ → Bool} {w : Wire} → 0 < m → Chain m n j w → Within m n w
-unfolding Within
-chain-within h here = h
-chain-within h (across chain k e) = k
-chain-within h (back chain k e) = k
-
 module _ (d : Diagram) (s : List ℕ) (facts : Facts d) where
   -- the ids of a row and a column whose cell conducts have walks that end alike
   joined-walk : (p q : ℕ) → p < idCount d → q < idCount d → Joined d s p q → walkEnd d s p ≡ walkEnd d s q
@@ -121,9 +115,9 @@ module _ (d : Diagram) (s : List ℕ) (facts : Facts d) where
   owner-walk here =
       ap (walkEnd d s) (rw (row-zero d) at (row-owner d 1 (one-row d facts) (one-within d))) ∙ walk-one d s
   owner-walk (across {r} {c} chain k e) =
-      sym (cell-walk r c (chain-within some-row chain) k e) ∙ owner-walk chain
+      sym (cell-walk r c (chain-within _ _ _ some-row (row r) chain) k e) ∙ owner-walk chain
   owner-walk (back {r} {c} chain h e) =
-      cell-walk r c h (chain-within some-row chain) e ∙ owner-walk chain
+      cell-walk r c h (chain-within _ _ _ some-row (column c) chain) e ∙ owner-walk chain
 
   pub chain-walk : (r : ℕ) → Reach d s (row r) → walkEnd d s (getD (rowOwners d) r 0) ≡ 1
   unfolding ownerOf
