@@ -23,7 +23,7 @@ use Rattle.jobs.specs.Job.{accepted, walk}
 use Rattle.placement.specs.Map.{mapJob}
 use Rattle.conduction.specs.Light.{light}
 use Rattle.listings.specs.Listing.{print}
-use Rattle.listings.specs.Loading.{Listed, cellFault, withCell, standFault, loadEnd, loadOuts, loadCells, sizeFault, loadFrom, load}
+use Rattle.listings.specs.Loading.{Listed, cellFault, withCell, outRowFault, loadEnd, loadOuts, loadCells, sizeFault, loadFrom, load}
 use Rattle.crossbar.specs.Host.{packed, mostNumber, Numbered, of-done, of-refused, answerOf}
 
 -- whether every number of some grounds is at most 15
@@ -130,7 +130,7 @@ unfolding loadEnd within mostNumber
 last-numbered x n ls = then-numbered (due endForm n ls) _ (due-numbered endForm n ls) (λ o. unless-numbered _ _ _ (lowest-within _ refl) (of-done _))
 
 stands-numbered : (k : ℕ) (x : Listed) (n : ℕ) (ls : Lines) → Numbered (loadOuts k x n ls)
-unfolding loadOuts standFault within mostNumber
+unfolding loadOuts outRowFault within mostNumber
 stands-numbered zero x n ls = last-numbered x n ls
 stands-numbered (suc k) x n ls =
     then-numbered (due outForm n ls) _ (due-numbered outForm n ls)

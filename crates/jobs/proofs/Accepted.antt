@@ -24,7 +24,7 @@ use Rattle.diagram.specs.Diagram.{Diagram, bare, withNode, withOut}
 use Rattle.diagram.specs.Faults.{headFault, oneFault, nodeFault, outFault}
 use Rattle.diagram.specs.Wires.{rowCount, columnCount, tooLarge}
 use Rattle.diagram.proofs.Facts.{Facts, Sizes}
-use Rattle.jobs.specs.Reading.{Text, nodeOf, readEnd, readOuts, readNodes, readOne, readHead, readText}
+use Rattle.jobs.specs.Reading.{ReadText, nodeOf, readEnd, readOuts, readNodes, readOne, readHead, readText}
 use Rattle.jobs.specs.Job.{accepted}
 
 -- a valid diagram e that goes on from d with m nodes and k outputs more
@@ -34,18 +34,18 @@ record Grown (d e : Diagram) (m k : ℕ) : Type 0 where
   nodes : length (e .nodes) ≡ length (d .nodes) + m
   outs : length (e .outs) ≡ length (d .outs) + k
 
-pub read-end : (d : Diagram) (n : ℕ) (ls : Lines) (t : Text) → readEnd d n ls ≡ done t → t .diagram ≡ d
+pub read-end : (d : Diagram) (n : ℕ) (ls : Lines) (t : ReadText) → readEnd d n ls ≡ done t → t .diagram ≡ d
 unfolding readEnd
 read-end d n ls t h =
     let taken = then-done (due endForm n ls) _ t h in
     let e = unless-done _ (n + 1) _ t (taken .2) .1 in
-    ap (λ (o : Outcome Text). diagramOf d o) (sym e)
+    ap (λ (o : Outcome ReadText). diagramOf d o) (sym e)
   where
-    diagramOf : Diagram → Outcome Text → Diagram
+    diagramOf : Diagram → Outcome ReadText → Diagram
     diagramOf e (done u) = u .diagram
     diagramOf e (refused a b) = e
 
-read-outs : (k : ℕ) (d : Diagram) (n : ℕ) (ls : Lines) (t : Text) → Valid d → readOuts k d n ls ≡ done t → Grown d (t .diagram) 0 k
+read-outs : (k : ℕ) (d : Diagram) (n : ℕ) (ls : Lines) (t : ReadText) → Valid d → readOuts k d n ls ≡ done t → Grown d (t .diagram) 0 k
 unfolding readOuts withOut
 read-outs zero d n ls t v h =
     let e = read-end d n ls t h in
@@ -79,7 +79,7 @@ pub one-label : (n : ℕ) (ls : Lines) (o : Taken) → due oneForm n ls ≡ done
 one-label n ls o h = let v = one-values (o .vals) (due-fits oneForm n ls o h) in (v .1, v .2)
 
 read-nodes :
-    (m k : ℕ) (d : Diagram) (n : ℕ) (ls : Lines) (t : Text)
+    (m k : ℕ) (d : Diagram) (n : ℕ) (ls : Lines) (t : ReadText)
     → Valid d
     → d .outs ≡ []
     → readNodes m k d n ls ≡ done t
@@ -104,7 +104,7 @@ read-nodes (suc m) k d n ls t v none-yet h =
     }
 
 read-one :
-    (v m k n : ℕ) (ls : Lines) (t : Text) → readOne v m k n ls ≡ done t → (one : ℕ) × Grown (bare v one) (t .diagram) m k
+    (v m k n : ℕ) (ls : Lines) (t : ReadText) → readOne v m k n ls ≡ done t → (one : ℕ) × Grown (bare v one) (t .diagram) m k
 unfolding readOne bare
 read-one v m k n ls t h =
     let taken = then-done (due oneForm n ls) _ t h in
@@ -144,7 +144,7 @@ head-ranges v n k h =
       leb-true k maxOutputs (and-right (a && b && c) e all),
     )
 
-read-head : (n : ℕ) (ls : Lines) (t : Text) → readHead n ls ≡ done t → Read (t .diagram)
+read-head : (n : ℕ) (ls : Lines) (t : ReadText) → readHead n ls ≡ done t → Read (t .diagram)
 unfolding readHead bare
 read-head n ls t h =
     let taken = then-done (due jobForm n ls) _ t h in

@@ -31,7 +31,7 @@ use Rattle.diagram.specs.Diagram.{Diagram, bare, withNode, withOut, idCount}
 use Rattle.diagram.specs.Stored.{stored}
 use Rattle.diagram.proofs.Stored.{idCount-stored}
 use Rattle.diagram.specs.Faults.{headFault, oneFault, nodeFault, outFault}
-use Rattle.jobs.specs.Reading.{Text, nodeOf, readEnd, readOuts, readNodes, readOne, readHead, readText}
+use Rattle.jobs.specs.Reading.{ReadText, nodeOf, readEnd, readOuts, readNodes, readOne, readHead, readText}
 use Rattle.jobs.specs.Steps.{Sized, HeadStep, OneStep, NodeStep, OutStep, EndStep}
 use Rattle.jobs.proofs.Accepted.{node-label, one-label, head-ranges}
 
@@ -115,7 +115,7 @@ unfolding maxSwitches maxNodes maxOutputs
 no-sizes = record { switches-most = omega arith; nodes-most = omega arith; outputs-most = omega arith }
 
 module _ (ls : Lines) (n : ℕ) where
-  pub head-missing : (rest : Outcome Text) → asJob (formIn ls n) ≡ none → readHead n ls ≡ unless 1 n rest
+  pub head-missing : (rest : Outcome ReadText) → asJob (formIn ls n) ≡ none → readHead n ls ≡ unless 1 n rest
   unfolding readHead _then_ unless
   head-missing rest e = rw (no-job ls n e)
 
@@ -128,7 +128,7 @@ module _ (ls : Lines) (n : ℕ) where
   unfolding readHead
   head-due vs e = then-is (due jobForm n ls) _ _ (due-job ls n vs e)
 
-  pub one-missing : (v m k : ℕ) (rest : Outcome Text) → asOne (formIn ls n) ≡ none → readOne v m k n ls ≡ unless 1 n rest
+  pub one-missing : (v m k : ℕ) (rest : Outcome ReadText) → asOne (formIn ls n) ≡ none → readOne v m k n ls ≡ unless 1 n rest
   unfolding readOne _then_ unless
   one-missing v m k rest e = rw (no-one ls n e)
 
@@ -139,7 +139,7 @@ module _ (ls : Lines) (n : ℕ) where
   unfolding readOne
   one-due v m k vs e = then-is (due oneForm n ls) _ _ (due-one ls n vs e)
 
-  pub node-missing : (m k : ℕ) (d : Diagram) (rest : Outcome Text) → asNode (formIn ls n) ≡ none → readNodes (suc m) k d n ls ≡ unless 1 n rest
+  pub node-missing : (m k : ℕ) (d : Diagram) (rest : Outcome ReadText) → asNode (formIn ls n) ≡ none → readNodes (suc m) k d n ls ≡ unless 1 n rest
   unfolding readNodes _then_ unless
   node-missing m k d rest e = rw (no-node ls n e)
 
@@ -151,7 +151,7 @@ module _ (ls : Lines) (n : ℕ) where
   unfolding readNodes
   node-due m k d vs e = then-is (due nodeForm n ls) _ _ (due-node ls n vs e)
 
-  pub out-missing : (k : ℕ) (d : Diagram) (rest : Outcome Text) → asOut (formIn ls n) ≡ none → readOuts (suc k) d n ls ≡ unless 1 n rest
+  pub out-missing : (k : ℕ) (d : Diagram) (rest : Outcome ReadText) → asOut (formIn ls n) ≡ none → readOuts (suc k) d n ls ≡ unless 1 n rest
   unfolding readOuts _then_ unless
   out-missing k d rest e = rw (no-out ls n e)
 
@@ -163,7 +163,7 @@ module _ (ls : Lines) (n : ℕ) where
   unfolding readOuts
   out-due k d vs e = then-is (due outForm n ls) _ _ (due-out ls n vs e)
 
-  pub end-missing : (d : Diagram) (rest : Outcome Text) → asEnd (formIn ls n) ≡ none → readEnd d n ls ≡ unless 1 n rest
+  pub end-missing : (d : Diagram) (rest : Outcome ReadText) → asEnd (formIn ls n) ≡ none → readEnd d n ls ≡ unless 1 n rest
   unfolding readEnd _then_ unless
   end-missing d rest e = rw (no-end ls n e)
 

@@ -20,7 +20,7 @@ use Rattle.jobs.specs.declared.Opening.{Opening}
 use Rattle.jobs.specs.declared.NodesRead.{NodesRead}
 use Rattle.jobs.specs.declared.OutsRead.{OutsRead}
 use Rattle.jobs.specs.declared.JobRead.{JobRead}
-use Rattle.jobs.specs.Reading.{Text, readEnd, readOuts, readText}
+use Rattle.jobs.specs.Reading.{ReadText, readEnd, readOuts, readText}
 use Rattle.jobs.specs.Job.{accepted, table}
 use Rattle.jobs.specs.Answer.{noJob, jobOf, jobRead, Holds}
 use Rattle.jobs.specs.Steps.{
@@ -51,16 +51,16 @@ unfolding jobRead refusalOf numberOf lineOf valueOf
 refused-answer r o e = rw e
 
 -- a refusal of the text stands
-stopped : (r : Refusal) (o rest : Outcome Text) → o ≡ unlessRefused r rest → (r .number ≡ 0 → ⊥) → sizeTested o ≡ refused (r .number) (r .line)
+stopped : (r : Refusal) (o rest : Outcome ReadText) → o ≡ unlessRefused r rest → (r .number ≡ 0 → ⊥) → sizeTested o ≡ refused (r .number) (r .line)
 unfolding sizeTested _then_
 stopped r o rest e h = rw (e, unless-some (r .number) (r .line) rest h)
 
 -- ground 11 on a text that was read
-large-refused : (o : Outcome Text) (t : Text) → o ≡ done t → tooLarge (t .diagram) ≡ true → sizeTested o ≡ refused 11 (t .last)
+large-refused : (o : Outcome ReadText) (t : ReadText) → o ≡ done t → tooLarge (t .diagram) ≡ true → sizeTested o ≡ refused 11 (t .last)
 unfolding sizeTested _then_ lowest unless
 large-refused o t e large = rw (e, large)
 
-small-done : (o : Outcome Text) (t : Text) → o ≡ done t → tooLarge (t .diagram) ≡ false → sizeTested o ≡ done (t .diagram)
+small-done : (o : Outcome ReadText) (t : ReadText) → o ≡ done t → tooLarge (t .diagram) ≡ false → sizeTested o ≡ done (t .diagram)
 unfolding sizeTested _then_ lowest unless
 small-done o t e small = rw (e, small)
 
@@ -105,7 +105,7 @@ module _ (s xs ls hs ts : List ℕ) (o : Opening) (b : OutsRead) (e : Refusal) (
 
 -- all lines
 stopped-lines :
-    (s xs ls hs ts : List ℕ) (r : Refusal) (rest : Outcome Text)
+    (s xs ls hs ts : List ℕ) (r : Refusal) (rest : Outcome ReadText)
     → readText s ≡ unlessRefused r rest
     → (r .number ≡ 0 → ⊥)
     → LinesRead s xs ls hs ts (record { refusal = r; job = noJob })

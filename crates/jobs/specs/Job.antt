@@ -11,7 +11,7 @@ use Rattle.diagram.specs.declared.Node.{Node}
 use Rattle.diagram.specs.Diagram.{Diagram, no-node}
 use Rattle.diagram.specs.Walk.{walkValue}
 use Rattle.diagram.specs.Wires.{tooLarge}
-use Rattle.jobs.specs.Reading.{Text, readText}
+use Rattle.jobs.specs.Reading.{ReadText, readText}
 
 -- "A job is accepted when its text breaks none of 1 to 11." Ground 11 comes after 10, on the line of `(end)`.
 unfoldable pub accepted : List ℕ → Outcome Diagram

@@ -21,7 +21,7 @@ use Rattle.jobs.specs.declared.OutsRead.{OutsRead}
 use Rattle.jobs.specs.declared.JobRead.{JobRead}
 use Rattle.jobs.specs.Answer.{jobRead, Holds}
 use Rattle.jobs.specs.Job.{accepted, table}
-use Rattle.jobs.specs.Reading.{Text, readEnd, readOuts, readNodes, readOne, readText}
+use Rattle.jobs.specs.Reading.{ReadText, readEnd, readOuts, readNodes, readOne, readText}
 
 -- what follows, unless there is a refusal
 abbrev pub unlessRefused : {A : Type 0} → Refusal → Outcome A → Outcome A
@@ -102,7 +102,7 @@ pub record EndStep (s : List ℕ) (at n : ℕ) (r : Refusal) : Type 0 where
   pub goes-on : (d : Diagram) → readEnd d n (linesOf (drop at s)) ≡ unlessRefused r (done (record { diagram = d; last = n }))
 
 -- ground 11, on a text that was read: "R or C exceeds 128; the line is that of `(end)`"
-unfoldable pub sizeTested : Outcome Text → Outcome Diagram
+unfoldable pub sizeTested : Outcome ReadText → Outcome Diagram
 sizeTested o = o then λ t. unless (lowest ((11 when tooLarge (t .diagram)) ∷ [])) (t .last) (done (t .diagram))
 
 -- the first two lines and the outputs of a job whose nodes the arrays hold: its diagram, and the line due for `(end)`

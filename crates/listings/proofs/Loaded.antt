@@ -27,7 +27,7 @@ use Rattle.forms.specs.Due.{Taken, due}
 use Rattle.forms.proofs.Template.{Fits, written-values, due-line, out-values, end-values, crossbar-values}
 use Rattle.listings.specs.Listing.{cellLine, cellLines, outLines, listing}
 use Rattle.forms.specs.Form.{Placed, placed}
-use Rattle.listings.specs.Loading.{switchBelow, Listed, cellFault, withCell, standFault, withStand, loadEnd, loadOuts, loadCells, sized, sizeFault, loadFrom, recordOf, cellsOf, load}
+use Rattle.listings.specs.Loading.{switchBelow, Listed, cellFault, withCell, outRowFault, withOutRow, loadEnd, loadOuts, loadCells, sized, sizeFault, loadFrom, recordOf, cellsOf, load}
 use Rattle.listings.proofs.Cells.{cell-lines-append, cell-lines-zeros, place-row, place-column, below-code, cell-written}
 use Rattle.listings.proofs.Printed.{soFar, in-range}
 
@@ -60,8 +60,8 @@ end-told x n ls y h =
     (k .0 ∙ right, cc)
 
 -- an output without a fault is in turn and on a row of the crossbar
-pub stand-facts : (x : Listed) (j r : ℕ) → standFault x j r ≡ 0 → (j ≡ length (x .outs)) × (ltb r (x .rows) ≡ true)
-unfolding standFault
+pub stand-facts : (x : Listed) (j r : ℕ) → outRowFault x j r ≡ 0 → (j ≡ length (x .outs)) × (ltb r (x .rows) ≡ true)
+unfolding outRowFault
 stand-facts x j r h =
     let first = not-met 2 (not (eqb j (length (x .outs)))) _ h in
     let second = others 2 (not (eqb j (length (x .outs)))) _ h in
@@ -76,7 +76,7 @@ pub record OutsTold (k : ℕ) (x : Listed) (s : List ℕ) (y : Listed) : Type 0 
   pub count : length stands ≡ k
 
 pub outs-told : (k : ℕ) (x : Listed) (n : ℕ) (ls : Lines) (y : Listed) → loadOuts k x n ls ≡ done y → OutsTold k x (textOf ls) y
-unfolding loadOuts outLines all-of withStand
+unfolding loadOuts outLines all-of withOutRow
 outs-told zero x n ls y h =
     let e = end-told x n ls y h in
     record { stands = []; result = rw (append-nil (x .outs)) (e .1); text = e .0; low = refl; count = refl }
@@ -84,9 +84,9 @@ outs-told (suc k) x n ls y h =
     let t = then-done (due outForm n ls) _ y h in
     let j = getD (t .0 .vals) 0 0 in
     let r = getD (t .0 .vals) 1 0 in
-    let u = unless-done (standFault x j r) n _ y (t .2) in
+    let u = unless-done (outRowFault x j r) n _ y (t .2) in
     let f = stand-facts x j r (u .0) in
-    let d = outs-told k (withStand x r) (n + 1) (t .0 .later) y (u .1) in
+    let d = outs-told k (withOutRow x r) (n + 1) (t .0 .later) y (u .1) in
     let g = line-taken outForm n ls (t .0) (t .1) in
     let longer : length (x .outs ++ (r ∷ [])) ≡ suc (length (x .outs)) = simp length-append (omega arith) in
     let shape : t .0 .vals ≡ length (x .outs) ∷ r ∷ [] = out-values (t .0 .vals) (g .1) .0 ∙ ap (λ (i : ℕ). i ∷ r ∷ []) (f .0) in

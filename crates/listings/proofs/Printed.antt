@@ -28,7 +28,7 @@ use Rattle.forms.specs.Due.{due}
 use Rattle.forms.proofs.Template.{due-written, out-apart, out-fits, end-apart, end-fits, crossbar-apart, crossbar-fits}
 use Rattle.listings.specs.Listing.{cellLine, cellLines, outLines, listing}
 use Rattle.forms.specs.Form.{Placed, placed}
-use Rattle.listings.specs.Loading.{switchBelow, Listed, cellFault, withCell, standFault, withStand, loadEnd, loadOuts, loadCells, sized, sizeFault, loadFrom, recordOf, cellsOf, load}
+use Rattle.listings.specs.Loading.{switchBelow, Listed, cellFault, withCell, outRowFault, withOutRow, loadEnd, loadOuts, loadCells, sized, sizeFault, loadFrom, recordOf, cellsOf, load}
 use Rattle.listings.proofs.Cells.{out-not-placed, line-first, Read, cell-read, code-below}
 
 -- every limit of a listing has a figure
@@ -89,8 +89,8 @@ end-read x n =
     ∙ unless-none _ _ (done x) refl
 
 -- an output in turn on a row of the crossbar has no fault
-stand-right : (x : Listed) (j r : ℕ) → j ≡ length (x .outs) → r < x .rows → standFault x j r ≡ 0
-unfolding standFault lowest
+stand-right : (x : Listed) (j r : ℕ) → j ≡ length (x .outs) → r < x .rows → outRowFault x j r ≡ 0
+unfolding outRowFault lowest
 stand-right x j r e h = rw (eq-eqb j (length (x .outs)) e, lt-ltb r (x .rows) h)
 
 -- the lines of the outputs and the last line
@@ -102,7 +102,7 @@ pub outs-read :
     → all-of (λ q. ltb q r) rs ≡ true
     → loadOuts (length rs) (soFar r c v k codes outs) n (linesOf (outLines (length outs) rs ++ line endForm []))
     ≡ done (soFar r c v k codes (outs ++ rs))
-unfolding loadOuts outLines all-of withStand
+unfolding loadOuts outLines all-of withOutRow
 outs-read r c v k codes z [] outs n room rows = rw (append-nil outs) (end-read (soFar r c v k codes outs) n)
 outs-read r c v k codes z (q ∷ rs) outs n room rows =
     let below : q < r = ltb-true q r (and-left (ltb q r) (all-of (λ q. ltb q r) rs) rows) in

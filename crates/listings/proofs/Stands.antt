@@ -16,7 +16,7 @@ use Rattle.forms.specs.declared.OutForm.{OutForm}
 use Rattle.forms.specs.declared.Form.the-variants as form
 use Rattle.forms.specs.Form.{formIn, notDue, kindOf, valuesIn, ofKind, asOut}
 use Rattle.forms.proofs.Lines.{due-out, no-out, lines-after}
-use Rattle.listings.specs.Loading.{Listed, standFault, withStand, loadEnd, loadOuts}
+use Rattle.listings.specs.Loading.{Listed, outRowFault, withOutRow, loadEnd, loadOuts}
 use Rattle.listings.specs.Loader.{listed}
 use Rattle.listings.proofs.Loaded.{stand-facts}
 use Rattle.listings.proofs.Kept.{padded-set}
@@ -55,7 +55,7 @@ missing-step k x n ls h = rw (no-out ls n h)
 stand-step :
     (k : ℕ) (x : Listed) (n : ℕ) (ls : Lines) (j r : ℕ)
     → asOut (formIn ls n) ≡ some (j ∷ r ∷ [])
-    → loadOuts (suc k) x n ls ≡ unless (standFault x j r) n (loadOuts k (withStand x r) (n + 1) (afterFirst ls))
+    → loadOuts (suc k) x n ls ≡ unless (outRowFault x j r) n (loadOuts k (withOutRow x r) (n + 1) (afterFirst ls))
 unfolding loadOuts _then_
 stand-step k x n ls j r h = rw (due-out ls n (j ∷ r ∷ []) h)
 
@@ -103,8 +103,8 @@ module _ {text : List ℕ} {s : SizeForm} {at n : ℕ} {outs : List ℕ} {next m
       step :
           (codes : List ℕ)
           → loadOuts (s .outputs) (listed s codes []) n (linesOf (drop at text))
-          ≡ unless (standFault (listed s codes (g .stands)) (f .number) (f .target)) m
-          (loadOuts (s .outputs - (j + 1)) (withStand (listed s codes (g .stands)) (f .target)) (m + 1)
+          ≡ unless (outRowFault (listed s codes (g .stands)) (f .number) (f .target)) m
+          (loadOuts (s .outputs - (j + 1)) (withOutRow (listed s codes (g .stands)) (f .target)) (m + 1)
           (linesOf (drop (lineEnd text next + 1) text)))
       step codes =
           due-here codes
@@ -114,7 +114,7 @@ module _ {text : List ℕ} {s : SizeForm} {at n : ℕ} {outs : List ℕ} {next m
       -- an output line with a fault
       pub standing-fault :
           (k : ℕ)
-          → ((codes stands : List ℕ) → length stands ≡ j → k ≡ standFault (listed s codes stands) (f .number) (f .target))
+          → ((codes stands : List ℕ) → length stands ≡ j → k ≡ outRowFault (listed s codes stands) (f .number) (f .target))
           → (k ≡ 0 → ⊥)
           → (codes : List ℕ)
           → loadOuts (s .outputs) (listed s codes []) n (linesOf (drop at text)) ≡ refused k m
@@ -123,7 +123,7 @@ module _ {text : List ℕ} {s : SizeForm} {at n : ℕ} {outs : List ℕ} {next m
       -- an output line without one
       module _
           (k : ℕ) (z : Ranged s)
-          (is : (codes stands : List ℕ) → length stands ≡ j → k ≡ standFault (listed s codes stands) (f .number) (f .target))
+          (is : (codes stands : List ℕ) → length stands ≡ j → k ≡ outRowFault (listed s codes stands) (f .number) (f .target))
           (none : k ≡ 0) where
         pub target-small : f .target < maxRows
         target-small =
@@ -131,7 +131,7 @@ module _ {text : List ℕ} {s : SizeForm} {at n : ℕ} {outs : List ℕ} {next m
             omega (arith, ltb-true (f .target) (s .rows) (w .1))
 
         pub standing-more : Standing text s at n (set outs j (f .target)) (lineEnd text next + 1) (m + 1) (j + 1)
-        unfolding withStand maxOutputs
+        unfolding withOutRow maxOutputs
         standing-more =
             let room : j < maxOutputs = omega arith in
             record {

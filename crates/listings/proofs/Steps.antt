@@ -24,7 +24,7 @@ use Rattle.forms.specs.Form.{Placed, placed, switchOf, cappedCell, capped, notD
 use Rattle.forms.specs.Due.{due}
 use Rattle.forms.proofs.Cases.{as-cell}
 use Rattle.forms.proofs.Lines.{due-end, no-end, lines-after}
-use Rattle.listings.specs.Loading.{Listed, switchBelow, cellFault, withCell, standFault, loadEnd, loadOuts, loadCells}
+use Rattle.listings.specs.Loading.{Listed, switchBelow, cellFault, withCell, outRowFault, loadEnd, loadOuts, loadCells}
 use Rattle.listings.specs.Loader.{sizesIn}
 use Rattle.listings.proofs.Printed.{Sizes, in-range}
 use Rattle.listings.proofs.Loaded.{cell-facts}
@@ -196,16 +196,16 @@ cell-named x p below h k e b =
     )
 
 -- grounds 3 and 12 on an output line, test by test
-pub out-of-turn : (x : Listed) (j r : ℕ) → (j ≡ length (x .outs) → ⊥) → standFault x j r ≡ 3
-unfolding standFault lowest
+pub out-of-turn : (x : Listed) (j r : ℕ) → (j ≡ length (x .outs) → ⊥) → outRowFault x j r ≡ 3
+unfolding outRowFault lowest
 out-of-turn x j r h = rw (ne-eqb j (length (x .outs)) h)
 
-pub stand-out : (x : Listed) (j r : ℕ) → j ≡ length (x .outs) → x .rows ≤ r → standFault x j r ≡ 12
-unfolding standFault lowest
+pub stand-out : (x : Listed) (j r : ℕ) → j ≡ length (x .outs) → x .rows ≤ r → outRowFault x j r ≡ 12
+unfolding outRowFault lowest
 stand-out x j r e h = rw (eq-eqb j (length (x .outs)) e, le-ltb r (x .rows) h)
 
-pub stand-in : (x : Listed) (j r : ℕ) → j ≡ length (x .outs) → r < x .rows → standFault x j r ≡ 0
-unfolding standFault lowest
+pub stand-in : (x : Listed) (j r : ℕ) → j ≡ length (x .outs) → r < x .rows → outRowFault x j r ≡ 0
+unfolding outRowFault lowest
 stand-in x j r e h = rw (eq-eqb j (length (x .outs)) e, lt-ltb r (x .rows) h)
 
 -- the last line, by its form

@@ -59,12 +59,12 @@ withCell x p =
     }
 
 -- 3 and 12 on `(out J r)`: "I or J is not the next in turn", "an output row is not below R"
-unfoldable pub standFault : Listed → ℕ → ℕ → ℕ
-standFault x j r = lowest ((3 when not (eqb j (length (x .outs)))) ∷ (12 when not (ltb r (x .rows))) ∷ [])
+unfoldable pub outRowFault : Listed → ℕ → ℕ → ℕ
+outRowFault x j r = lowest ((3 when not (eqb j (length (x .outs)))) ∷ (12 when not (ltb r (x .rows))) ∷ [])
 
 -- with one output more
-unfoldable pub withStand : Listed → ℕ → Listed
-withStand x r =
+unfoldable pub withOutRow : Listed → ℕ → Listed
+withOutRow x r =
     record {
       rows = x .rows;
       columns = x .columns;
@@ -84,8 +84,8 @@ loadOuts zero x n ls = loadEnd x n ls
 loadOuts (suc k) x n ls =
     due outForm n ls
     then λ o.
-    unless (standFault x (getD (o .vals) 0 0) (getD (o .vals) 1 0)) n
-    (loadOuts k (withStand x (getD (o .vals) 1 0)) (n + 1) (o .later))
+    unless (outRowFault x (getD (o .vals) 0 0) (getD (o .vals) 1 0)) n
+    (loadOuts k (withOutRow x (getD (o .vals) 1 0)) (n + 1) (o .later))
 
 -- cell lines, as many as there are; the first other line is due to be an output's
 unfoldable pub loadCells : Listed → ℕ → Lines → Outcome Listed

@@ -19,7 +19,7 @@ ghost use Rattle.common.specs.Limits.{maxRows, maxColumns, maxOutputs};
 ghost use Rattle.common.specs.Lists.{zeros, padded};
 ghost use Rattle.common.specs.Outcome.{refused, _then_};
 ghost use Rattle.figures.specs.Line.{linesOf};
-ghost use Rattle.listings.specs.Loading.{Listed, switchBelow, cellFault, standFault, sizeFault, loadEnd, loadOuts, loadCells, fitted, loadAt, load};
+ghost use Rattle.listings.specs.Loading.{Listed, switchBelow, cellFault, outRowFault, sizeFault, loadEnd, loadOuts, loadCells, fitted, loadAt, load};
 ghost use Rattle.listings.specs.Loader.{Handed, listed, sizesIn, placedBy, outputsOf, kept, CellsReached};
 
 // Ground 12: a cell or an output row is not where it may be, or names a switch that is not there.
@@ -117,7 +117,7 @@ fn stand_fault(s: SizeForm, j: usize, f: OutForm) -> u32
     ensures { λ r.
         ⌜ ((codes stands : List ℕ)
         → length stands ≡ j
-        → r ≡ standFault (listed s codes stands) (f .number) (f .target)) ⌝ }
+        → r ≡ outRowFault (listed s codes stands) (f .number) (f .target)) ⌝ }
 {
     if f.number as usize != j {
         return 3;
