@@ -14,26 +14,26 @@ use Rattle.jobs.specs.Reading.{readEnd, readOuts, readNodes, readOne, re
 use Rattle.jobs.specs.Job.{accepted}
 
 -- not refused with number 0
-abbrev Named : {A : Type 0} → Outcome A → Type 0
+abbrev pub Named : {A : Type 0} → Outcome A → Type 0
 Named o = (l : ℕ) → o ≡ refused 0 l → ⊥
 
-named-done : {A : Type 0} (a : A) → Named (done a)
+pub named-done : {A : Type 0} (a : A) → Named (done a)
 named-done a l e = let z : _≡_ {A = ℕ} 0 1 = cc in omega arith
 
-named-refused : {A : Type 0} (k n : ℕ) → Named {A = A} (refused (suc k) n)
+pub named-refused : {A : Type 0} (k n : ℕ) → Named {A = A} (refused (suc k) n)
 named-refused k n l e = let z : suc k ≡ 0 = cc in omega arith
 
-named-then : {A B : Type 0} (o : Outcome A) (f : A → Outcome B) → Named o → ((a : A) → Named (f a)) → Named (o then f)
+pub named-then : {A B : Type 0} (o : Outcome A) (f : A → Outcome B) → Named o → ((a : A) → Named (f a)) → Named (o then f)
 unfolding _then_
 named-then (done a) f h g = g a
 named-then (refused k n) f h g = λ l e. let z : k ≡ 0 = cc in h n (ap (λ (q : ℕ). refused q n) z)
 
-named-unless : {A : Type 0} (k n : ℕ) (rest : Outcome A) → Named rest → Named (unless k n rest)
+pub named-unless : {A : Type 0} (k n : ℕ) (rest : Outcome A) → Named rest → Named (unless k n rest)
 unfolding unless
 named-unless zero n rest h = h
 named-unless (suc k) n rest h = named-refused k n
 
-named-due : (t : Template) (n : ℕ) (ls : Lines) → Named (due t n ls)
+pub named-due : (t : Template) (n : ℕ) (ls : Lines) → Named (due t n ls)
 unfolding due
 named-due t n (left s) = named-refused 0 n
 named-due t n (l ⏎ ls) = by-values (values t l)
@@ -72,8 +72,8 @@ named-accepted : (s : List ℕ) → Named (accepted s)
 unfolding accepted readText
 named-accepted s = named-then (readHead 1 (linesOf s)) _ (named-head 1 (linesOf s)) (λ t. named-unless _ _ _ (named-done _))
 
--- number 0: the job is accepted
-by-number : {A : Type 0} (o : Outcome A) → Named o → numberOf o ≡ 0 → (a : A) × (o ≡ done a)
+-- number 0: the outcome is done, and so the job is accepted
+pub by-number : {A : Type 0} (o : Outcome A) → Named o → numberOf o ≡ 0 → (a : A) × (o ≡ done a)
 unfolding numberOf
 by-number (done a) h e = (a, refl)
 by-number (refused k l) h e = absurd (h l (ap (λ (q : ℕ). refused q l) e))

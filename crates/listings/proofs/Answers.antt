@@ -113,7 +113,7 @@ drop-zeros (suc k) zero = let e : 0 - suc k ≡ 0 = omega arith in rw e
 drop-zeros (suc k) (suc n) = let e : suc n - suc k ≡ n - k = omega arith in drop-zeros k n ∙ ap zeros (sym e)
 
 -- a text written at the start of zeros
-put-zeros : (room : ℕ) (w : List ℕ) → put (zeros room) 0 w ≡ padded room w
+pub put-zeros : (room : ℕ) (w : List ℕ) → put (zeros room) 0 w ≡ padded room w
 unfolding put padded
 put-zeros room w = let e : 0 + length w ≡ length w = omega arith in rw e (ap (λ (l : List ℕ). w ++ l) (drop-zeros (length w) room))
 

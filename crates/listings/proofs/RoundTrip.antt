@@ -105,16 +105,18 @@ unfolding all-of
 all-of-more f [] n h = all-of-zeros f n h
 all-of-more f (a ∷ s) n h = rw (all-of-more f s n h)
 
--- print reads the first R·C codes, and zeros past them change nothing
-pub print-zeros :
-    (x : Crossbar) (cells : List ℕ) (n room : ℕ)
-    → size x ≤ length cells
-    → print x (cells ++ zeros n) room ≡ print x cells room
-unfolding print sound listing
-print-zeros x cells n room h =
-    let more : leb (size x) (length (cells ++ zeros n)) ≡ true = le-leb (size x) (length (cells ++ zeros n)) (rw length-append (omega arith)) in
-    let most : leb (size x) (length cells) ≡ true = le-leb (size x) (length cells) h in
-    rw (more, most, take-append-le (size x) cells (zeros n) h, drop-append-le (size x) cells (zeros n) h, all-of-more (λ b. eqb b 0) (drop (size x) cells) n refl)
+-- ground 12 and print read the first R·C codes, and zeros past them change nothing
+module _ (x : Crossbar) (cells : List ℕ) (n : ℕ) (h : size x ≤ length cells) where
+  pub sound-zeros : sound x (cells ++ zeros n) ≡ sound x cells
+  unfolding sound
+  sound-zeros =
+      let more : leb (size x) (length (cells ++ zeros n)) ≡ true = le-leb (size x) (length (cells ++ zeros n)) (rw length-append (omega arith)) in
+      let most : leb (size x) (length cells) ≡ true = le-leb (size x) (length cells) h in
+      rw (more, most, take-append-le (size x) cells (zeros n) h, drop-append-le (size x) cells (zeros n) h, all-of-more (λ b. eqb b 0) (drop (size x) cells) n refl)
+
+  pub print-zeros : (room : ℕ) → print x (cells ++ zeros n) room ≡ print x cells room
+  unfolding print listing
+  print-zeros room = rw (sound-zeros, take-append-le (size x) cells (zeros n) h)
 
 -- "load then print", of a buffer that is longer than the R·C cells: load leaves zeros past them
 pub print-load-padded :
@@ -125,4 +127,4 @@ pub print-load-padded :
 unfolding padded
 print-load-padded s room room′ n w h fits =
     let enough = sound-facts (w .head) (w .codes) (loaded-text s room w h .0) .enough in
-    print-zeros (w .head) (w .codes) (n - length (w .codes)) room′ enough ∙ print-load s room room′ w h fits
+    print-zeros (w .head) (w .codes) (n - length (w .codes)) enough room′ ∙ print-load s room room′ w h fits

@@ -1,1 +1,3 @@
 pub mod Programs
+pub mod Setting
+pub mod Texts

@@ -1,0 +1,70 @@
+-- `map_main::main` meets its contract: the text handed over lies in the buffer, and it is the text for the input. Assumes nothing.
+use mathlib.Core.Path.{sym}
+use lib.Seq.{length-take-le}
+use Rattle.common.specs.Limits.{maxText}
+use Rattle.programs.proofs.Bounds.{map-whole, zeros-hold}
+use Rattle.programs.proofs.Texts.{said-within, said-whole}
+use borrow.Author.Needs.{needs}
+use Rattle.map_main.proofs.main.Statement.{statement}
+use Rattle.map_main.proofs.main.Tie as tie
+
+large-buffer-requires : tie.Need-large-buffer-requires
+large-buffer-requires c κs = search needs
+
+slice-aggregate-read-full : tie.Need-slice-aggregate-read-full
+slice-aggregate-read-full c = search needs
+
+read-full-requires : tie.Need-read-full-requires
+read-full-requires c κs = search needs
+
+array-share-prefix-input : tie.Need-array-share-prefix-input
+array-share-prefix-input c = search needs
+
+slice-aggregate-map-text : tie.Need-slice-aggregate-map-text
+slice-aggregate-map-text c = search needs
+
+slice-aggregate-map-text-2 : tie.Need-slice-aggregate-map-text-2
+slice-aggregate-map-text-2 c = search needs
+
+map-text-requires : tie.Need-map-text-requires
+map-text-requires c κs = search needs
+
+array-share-prefix-input-2 : tie.Need-array-share-prefix-input-2
+array-share-prefix-input-2 c = search needs
+
+slice-aggregate-write : tie.Need-slice-aggregate-write
+slice-aggregate-write c = search needs
+
+array-share-prefix-out : tie.Need-array-share-prefix-out
+array-share-prefix-out c =
+    said-within _ _ _ _ (c .before .before .map-text .ensures)
+
+slice-aggregate-write-2 : tie.Need-slice-aggregate-write-2
+slice-aggregate-write-2 c =
+    sym (length-take-le _ _ (said-within _ _ _ _ (c .before .before .before .map-text .ensures)))
+
+write-requires : tie.Need-write-requires
+unfolding maxText
+write-requires c κs =
+    said-whole _ _ _ _ (map-whole _ _ zeros-hold) (c .before .before .before .map-text .ensures)
+
+returns : tie.Need-returns
+returns c = search needs
+
+pub main-spec : {M : Type 1} → statement M
+main-spec =
+    tie.close
+    (tie.spec
+    large-buffer-requires
+    slice-aggregate-read-full
+    read-full-requires
+    array-share-prefix-input
+    slice-aggregate-map-text
+    slice-aggregate-map-text-2
+    map-text-requires
+    array-share-prefix-input-2
+    slice-aggregate-write
+    array-share-prefix-out
+    slice-aggregate-write-2
+    write-requires
+    returns)

@@ -1,0 +1,15 @@
+-- `programs::setting::no_set` meets its contract. Assumes nothing.
+use mathlib.Core.Path.{refl}
+use Rattle.common.specs.Limits.{maxSwitches}
+use Rattle.programs.specs.Setting.{noSet}
+use borrow.Author.Needs.{needs}
+use Rattle.programs.proofs.setting.no_set.Statement.{statement}
+use Rattle.programs.proofs.setting.no_set.Tie as tie
+
+returns : tie.Need-returns
+unfolding noSet maxSwitches
+returns c =
+    refl
+
+pub no-set-spec : {M : Type 1} → statement M
+no-set-spec = tie.close (tie.spec returns)
