@@ -1,15 +1,15 @@
 -- What the calls hand over to the programs, and what the programs print of it. Assumes nothing.
-use Prim.Native.Nat.{ℕ, _+_, _-_, _*_, _≤_, _<_}
+use Prim.Native.Nat.{ℕ, _+_, _-_, _*_, _≤_}
 use mathlib.Core.Path.{_≡_, refl, sym, ap, _∙_}
-use mathlib.Core.Bool.{true, false}
-use mathlib.Core.List.{List, [], _∷_, _++_}
+use mathlib.Core.Bool.{true}
+use mathlib.Core.List.{List}
 use native.Mathlib.Omega.{arith}
 use lib.ListN.{length, take, drop}
 use lib.Seq.{take-at}
 use Rattle.common.specs.Limits.{maxRows, maxColumns, maxSwitches, maxOutputs, maxInput}
 use Rattle.common.specs.Lists.{zeros, padded}
 use Rattle.common.proofs.Lists.{length-padded}
-use Rattle.common.specs.Outcome.{Outcome, done, refused, _then_, numberOf, lineOf, refusalOf, valueOf, bufferOf}
+use Rattle.common.specs.Outcome.{Outcome, done, _then_, numberOf, refusalOf, valueOf, bufferOf}
 use Rattle.figures.specs.Line.{linesOf, lineEnd}
 use Rattle.cells.specs.declared.Crossbar.{Crossbar}
 use Rattle.cells.specs.Record.{Whole}

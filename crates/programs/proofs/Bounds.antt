@@ -1,9 +1,9 @@
 -- No program prints more than 393,728 bytes, so that the programs' buffer holds every text. Assumes nothing.
-use Prim.Native.Nat.{ℕ, zero, suc, _+_, _*_, _/_, _%_, _≤_, _<_}
-use mathlib.Core.Path.{_≡_, refl, sym, ap, _∙_}
+use Prim.Native.Nat.{ℕ, suc, _+_, _*_, _/_, _%_, _≤_, _<_}
+use mathlib.Core.Path.{_≡_, refl}
 use mathlib.Core.Logic.{⊎-elim}
-use mathlib.Core.Bool.{Bool, true, false}
-use mathlib.Core.List.{List, [], _∷_, _++_}
+use mathlib.Core.Bool.{true}
+use mathlib.Core.List.{List, [], _∷_}
 use native.Mathlib.Omega.{arith}
 use native.Mathlib.Nat.{mul-le-mul}
 use lib.ListN.{length, getD, take, length-append, length-replicate, length-take}
@@ -12,7 +12,7 @@ use lib.Dec.{leb, ltb}
 use borrow.Author.Tests.{leb-true, ltb-true}
 use Rattle.common.specs.Limits.{maxRows, maxColumns, maxSwitches, maxOutputs, maxText}
 use Rattle.common.specs.Lists.{zeros, all-of}
-use Rattle.common.specs.Outcome.{Outcome, done, refused, _then_, _when_, lowest, unless}
+use Rattle.common.specs.Outcome.{Outcome, done, refused, _then_}
 use Rattle.common.proofs.Lists.{and-left, and-right, below-or-not}
 use Rattle.common.proofs.Outcome.{then-done, unless-done}
 use Rattle.figures.specs.Bytes.{bytes}
@@ -35,7 +35,7 @@ use Rattle.listings.specs.Loading.{Listed, loadFrom, recordOf, cellsOf}
 use Rattle.listings.proofs.Printed.{sound-facts, placing}
 use Rattle.programs.specs.Programs.{printed, inputFits, mapProgram, setLine, readsLines, readings, lightAndRead, lightProgram}
 use Rattle.programs.specs.Texts.{fitted}
-use Rattle.programs.proofs.Printing.{Maps, map-maps, light-outputs}
+use Rattle.programs.proofs.Printing.{map-maps, light-outputs}
 use Rattle.programs.proofs.Texts.{fitted-fits}
 
 -- the digits of a figure

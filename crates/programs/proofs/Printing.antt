@@ -2,20 +2,18 @@
 use Prim.Native.Nat.{ℕ, zero, suc, _+_, _-_, _*_, _≤_, _<_}
 use mathlib.Core.Path.{_≡_, refl, sym, ap, _∙_}
 use mathlib.Core.Logic.{⊎-elim}
-use mathlib.Core.Bool.{Bool, true, false, not}
+use mathlib.Core.Bool.{true, false}
 use mathlib.Core.Option.{Option, some, none}
 use mathlib.Core.List.{List, [], _∷_, _++_}
 use native.Mathlib.Omega.{arith}
 use native.Mathlib.Nat.{mul-le-mul}
-use lib.ListN.{length, getD, take, drop, length-append, length-replicate, List·getD-append, List·getD-eq-default}
-use lib.Seq.{take-at}
-use lib.Dec.{ltb}
+use lib.ListN.{length, getD, take, drop, length-append, length-replicate}
 use borrow.Author.Tests.{lt-ltb, le-ltb}
 use Rattle.common.specs.Limits.{maxRows, maxColumns, maxSwitches, maxOutputs, maxInput}
 use Rattle.common.specs.Lists.{zeros, padded}
-use Rattle.common.specs.Outcome.{Outcome, done, refused, _then_, _when_, lowest, unless, numberOf, lineOf, refusalOf, valueOf, bufferOf}
+use Rattle.common.specs.Outcome.{Outcome, done, refused, _then_, lowest, unless, numberOf, lineOf, refusalOf, valueOf, bufferOf}
 use Rattle.common.proofs.Lists.{below-or-not}
-use Rattle.common.proofs.Outcome.{then-done, unless-done, unless-none}
+use Rattle.common.proofs.Outcome.{then-done, unless-done}
 use Rattle.figures.specs.Line.{Lines, left, _⏎_, linesOf, afterFirst, lineEnd}
 use Rattle.figures.proofs.Ends.{line-left}
 use Rattle.cells.specs.declared.Crossbar.{Crossbar}
@@ -33,18 +31,16 @@ use Rattle.jobs.proofs.Refusals.{Named, named-done, named-refused, named-then, 
 use Rattle.placement.specs.Map.{mapJob}
 use Rattle.placement.specs.Placement.{cells, crossbar}
 use Rattle.placement.proofs.Sound.{mapped-sound, cells-count}
-use Rattle.conduction.specs.Round.{rounds, roundCount, atRest}
 use Rattle.conduction.specs.Light.{Lit, joined, litBy, light}
 use Rattle.conduction.proofs.Light.{light-answers}
 use Rattle.listings.specs.declared.printing.Printed.{Printed}
 use Rattle.listings.specs.Listing.{listing, print}
 use Rattle.listings.specs.Printing.{printedOf, Answered}
-use Rattle.listings.specs.Loading.{Listed, loadEnd, loadOuts, loadCells, cellFault, withCell, loadFrom, recordOf, cellsOf, fitted, loadAt}
+use Rattle.listings.specs.Loading.{Listed, loadEnd, loadOuts, loadCells, cellFault, withCell, loadFrom, recordOf, cellsOf, loadAt}
 use Rattle.listings.proofs.Answers.{print-long, print-fits, outputs-in}
 use Rattle.listings.proofs.Loaded.{told}
 use Rattle.listings.proofs.Printed.{in-range}
 use Rattle.listings.proofs.RoundTrip.{sound-zeros, print-zeros}
-use Rattle.programs.specs.declared.setting.SetLine.{SetLine}
 use Rattle.programs.specs.Programs.{printed, inputFits, mapProgram, setLine, readsLines, readings, lightAndRead, lightProgram}
 use Rattle.programs.specs.Setting.{setFound, noSet, setOf}
 use Rattle.programs.specs.Texts.{Said}

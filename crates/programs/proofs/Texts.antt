@@ -1,22 +1,19 @@
 -- What a program hands over for a text that was written into a clear buffer, and the readings part by part. Assumes nothing.
-use Prim.Native.Nat.{ℕ, zero, suc, _+_, _-_, _≤_, _<_}
+use Prim.Native.Nat.{ℕ, _+_, _-_, _≤_, _<_}
 use mathlib.Core.Path.{_≡_, refl, sym, ap, _∙_}
-use mathlib.Core.Logic.{⊎-elim}
-use mathlib.Core.Bool.{true, false}
 use mathlib.Core.List.{List, [], _∷_, _++_, append-assoc}
 use native.Mathlib.Omega.{arith}
 use native.Mathlib.Numerals.{add-one}
-use lib.ListN.{length, getD, take, drop, length-append, length-replicate}
+use lib.ListN.{length, getD, take, length-append, length-replicate}
 use lib.Seq.{slice-empty, slice-cons, take-at}
 use borrow.Author.Tests.{le-leb, lt-leb}
 use Rattle.common.specs.Lists.{zeros, padded}
 use Rattle.figures.specs.Bytes.{bytes}
-use Rattle.figures.specs.Position.{put}
 use Rattle.cells.specs.declared.Crossbar.{Crossbar}
 use Rattle.conduction.specs.Light.{Lit}
 use Rattle.forms.specs.Template.{written, line}
 use Rattle.forms.specs.Forms.{refusedForm, roundsForm, readsForm, endForm}
-use Rattle.forms.specs.Filled.{itemOf, uses, filled, filledLine, Fitted, Unfit, Written}
+use Rattle.forms.specs.Filled.{itemOf, uses, filled, filledLine, Fitted, Written}
 use Rattle.forms.specs.declared.write.Wrote.{Wrote}
 use Rattle.forms.specs.declared.write.Wrote.the-variants.{Next, Full}
 use Rattle.forms.proofs.Parts.{Going, going-start, going-part}

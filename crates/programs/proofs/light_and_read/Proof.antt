@@ -1,7 +1,6 @@
 -- `programs::light_and_read` meets its contract: the case of the definition that each return stands for. Assumes nothing.
-use mathlib.Core.Path.{_≡_, refl, sym, ap, _∙_}
-use lib.ListN.{length}
-use Rattle.common.specs.Limits.{maxRows, maxColumns, maxInput}
+use mathlib.Core.Path.{refl}
+use Rattle.common.specs.Limits.{maxRows, maxColumns}
 use Rattle.programs.proofs.Answers.{lit-refused, lit-outputs, lit-prints}
 use Rattle.programs.proofs.Printing.{refusedLine}
 use Rattle.programs.proofs.Texts.{said-as}

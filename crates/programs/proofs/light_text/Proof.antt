@@ -1,11 +1,8 @@
 -- `programs::light_text` meets its contract: the case of the definition that each return stands for. Assumes nothing.
-use mathlib.Core.Path.{_≡_, refl, sym, ap, _∙_}
-use lib.ListN.{length}
+use mathlib.Core.Path.{refl, sym, ap, _∙_}
 use Rattle.common.specs.Limits.{maxRows, maxColumns, maxInput}
-use Prim.Native.Nat.{_+_, _≤_}
 use native.Mathlib.Omega.{arith}
 use borrow.Author.Tests.{not-true, not-false}
-use Rattle.common.specs.Limits.{maxSwitches}
 use Rattle.figures.proofs.Ends.{end-inside}
 use Rattle.programs.specs.Programs.{lightProgram}
 use Rattle.programs.proofs.Answers.{set-is, figures-taken, figures-within, loaded-refused, loaded-prints}

@@ -1,6 +1,5 @@
 -- `programs::map_text` meets its contract: the case of the definition that each return stands for. Assumes nothing.
-use mathlib.Core.Path.{_≡_, refl, sym, ap, _∙_}
-use lib.ListN.{length}
+use mathlib.Core.Path.{refl}
 use Rattle.common.specs.Limits.{maxRows, maxColumns, maxInput}
 use Rattle.programs.specs.Programs.{mapProgram}
 use Rattle.programs.proofs.Answers.{mapped-refused, mapped-said}

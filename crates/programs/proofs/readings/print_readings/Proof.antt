@@ -1,5 +1,5 @@
 -- `programs::readings::print_readings` meets its contract. Assumes nothing.
-use mathlib.Core.Path.{_≡_, _∙_}
+use mathlib.Core.Path.{_≡_}
 use native.Mathlib.Omega.{arith}
 use lib.ListN.{length}
 use Rattle.programs.proofs.Texts.{said-over}

@@ -1,5 +1,4 @@
 -- `programs::readings::said` meets its contract. Assumes nothing.
-use mathlib.Core.Path.{_≡_}
 use Rattle.programs.proofs.Texts.{said-next, said-full}
 use borrow.Author.Needs.{needs}
 use Rattle.programs.proofs.readings.said.Statement.{statement}

@@ -1,11 +1,8 @@
 -- `programs::readings::write_reads` meets its contract: the lines of the outputs from output j on are still to be written. Assumes nothing.
 use Prim.Native.Nat.{_-_, _≤_}
-use mathlib.Core.Path.{_≡_, refl, sym}
+use mathlib.Core.Path.{refl}
 use native.Mathlib.Omega.{arith}
-use lib.ListN.{length, getD}
 use Rattle.common.specs.Limits.{maxOutputs}
-use Rattle.forms.specs.Template.{line}
-use Rattle.forms.specs.Forms.{readsForm}
 use Rattle.forms.proofs.Parts.{Going, going-start, going-part, going-full, going-end, written-next, written-full}
 use Rattle.programs.specs.Texts.{readsText}
 use Rattle.programs.proofs.Texts.{reads-text-none, reads-text-more}

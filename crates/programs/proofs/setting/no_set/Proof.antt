@@ -2,7 +2,6 @@
 use mathlib.Core.Path.{refl}
 use Rattle.common.specs.Limits.{maxSwitches}
 use Rattle.programs.specs.Setting.{noSet}
-use borrow.Author.Needs.{needs}
 use Rattle.programs.proofs.setting.no_set.Statement.{statement}
 use Rattle.programs.proofs.setting.no_set.Tie as tie
 

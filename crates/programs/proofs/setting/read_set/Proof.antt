@@ -1,8 +1,8 @@
 -- `programs::setting::read_set` meets its contract: the invariant says which figures are seen and which are still to come. Assumes nothing.
-use Prim.Native.Nat.{ℕ, _+_, _-_, _≤_}
-use mathlib.Core.Path.{_≡_, sym, ap, _∙_}
+use Prim.Native.Nat.{_-_}
+use mathlib.Core.Path.{sym, _∙_}
 use native.Mathlib.Omega.{arith}
-use lib.ListN.{length, getD}
+use lib.ListN.{length}
 use borrow.Author.Tests.{not-true, not-false, eqb-true, eqb-false}
 use Rattle.common.specs.Limits.{maxSwitches}
 use Rattle.figures.specs.Bytes.{bytes}
