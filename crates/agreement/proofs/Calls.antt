@@ -1,6 +1,6 @@
 -- Demand 3 of the calls: from their promises and `demand-3`. Assumes nothing.
 use Prim.Native.Nat.{ℕ, _+_, _≤_, _<_}
-use mathlib.Core.Path.{_≡_, refl, sym, ap, _∙_}
+use mathlib.Core.Path.{_≡_, sym, ap, subst, _∙_}
 use mathlib.Core.Logic.{_↔_, Iff·trans, Iff·symm}
 use mathlib.Core.Bool.{true}
 use mathlib.Core.List.{List}
@@ -8,6 +8,7 @@ use lib.ListN.{length, getD}
 use Rattle.common.specs.Lists.{padded}
 use Rattle.common.specs.Outcome.{Outcome, done, numberOf, lineOf, refusalOf, valueOf, bufferOf}
 use Rattle.common.proofs.Lists.{getD-padded-any}
+use Rattle.cells.specs.declared.Crossbar.{Crossbar}
 use Rattle.cells.specs.Record.{Whole, size}
 use Rattle.cells.specs.Setting.{isSetting}
 use Rattle.diagram.specs.Diagram.{Diagram}
@@ -16,6 +17,7 @@ use Rattle.jobs.specs.Answer.{walked}
 use Rattle.jobs.specs.Job.{accepted, walk}
 use Rattle.placement.specs.declared.Mapped.{Mapped}
 use Rattle.placement.specs.Answer.{MapAnswers, mapped}
+use Rattle.placement.specs.Placement.{crossbar}
 use Rattle.conduction.specs.declared.Lighted.{Lighted}
 use Rattle.conduction.specs.Light.{Lit, light, lighted, Answers as LightAnswers}
 use Rattle.agreement.specs.Demand3.{Demand3, Reads, WalksToOne, Answers, standsOn}
@@ -38,20 +40,22 @@ module _
     (j : ℕ)
     (v : Walked)
     (taken : accepted text ≡ done d)
-    (ran : Ran text before cells m setting dark wires l j v)
+    (ran : Ran text before cells d m setting dark wires l j v)
   where
-    abbrev pub claim : Demand3 text d
+    abbrev claim : Demand3 text d
     claim = demand-3 text d taken
 
-    pub calls-agree :
-        size (claim .whole .head) ≤ length before
-        → claim .whole .head .rows + claim .whole .head .columns ≤ length dark
-        → isSetting (d .switches) setting ≡ true
-        → j < length (d .outs)
-        → CallsAgree text before cells d m setting dark wires l j v
+    head-placed : claim .whole .head ≡ crossbar d
+    head-placed = ap (λ (x : Whole). x .head) (claim .placed)
+
+    agree-by : CallsAgree d m setting wires l j v
     unfolding mapped lighted walked refusalOf numberOf lineOf valueOf bufferOf
-    calls-agree room wire-room set below =
+    agree-by =
         let w = claim .whole in
+        let room : size (w .head) ≤ length before = rw head-placed (ran .room) in
+        let wire-room : w .head .rows + w .head .columns ≤ length dark = rw head-placed (ran .wire-room) in
+        let set = ran .set in
+        let below = ran .below in
         let m-is : m ≡ record { refusal = record { number = 0; line = 0 }; head = w .head } =
         ran .map-kept .answer ∙ ap mapped (claim .maps (length before) room) in
         let cells-are : cells ≡ padded (length before) (w .codes) =
@@ -59,7 +63,10 @@ module _
         let head-is : m .head ≡ w .head = ap (λ (x : Mapped). x .head) m-is in
         let runs = claim .lights setting (length before) (length dark) room set wire-room in
         let a = runs .0 in
-        let light-is : light (m .head) cells setting (length dark) ≡ done a = rw (head-is, cells-are) (runs .1) in
+        let light-is : light (m .head) cells setting (length dark) ≡ done a =
+        ap (λ (x : Crossbar). light x cells setting (length dark)) head-is
+        ∙ ap (λ (c : List ℕ). light (w .head) c setting (length dark)) cells-are
+        ∙ runs .1 in
         let l-is : l ≡ record { refusal = record { number = 0; line = 0 }; rounds = a .count } =
         ran .light-kept .answer ∙ ap lighted light-is in
         let wires-are : wires ≡ padded (length dark) (a .wires) =
@@ -69,7 +76,9 @@ module _
         ran .walk-kept ∙ ap walked (walking .1) in
         let read = claim .reading setting j set below in
         let row-byte : getD wires (getD (m .head .outs) j 0) 0 ≡ getD (a .wires) (standsOn w j) 0 =
-        rw (wires-are, head-is) (getD-padded-any (length dark) (a .wires) (standsOn w j)) in
+        ap (λ (x : Crossbar). getD wires (getD (x .outs) j 0) 0) head-is
+        ∙ ap (λ (q : List ℕ). getD q (standsOn w j) 0) wires-are
+        ∙ getD-padded-any (length dark) (a .wires) (standsOn w j) in
         record {
           mapped-all = ap (λ (x : Mapped). x .refusal .number) m-is;
           lit-all = ap (λ (x : Lighted). x .refusal .number) l-is;
@@ -81,7 +90,7 @@ module _
           walk-shown =
               rw (ap (λ (x : Walked). x .value) v-is)
               (answers-same (walking .0) (Reads w setting j) (WalksToOne d setting j) read (claim .walked setting j (walking .0) (walking .1)));
-          one-row = λ i within. rw head-is (walks-row i within);
+          one-row = λ i within. subst (λ (x : Crossbar). ((other : List ℕ) → isSetting (d .switches) other ≡ true → WalksToOne d other i ↔ WalksToOne d other j) ↔ (getD (x .outs) i 0 ≡ getD (x .outs) j 0)) (sym head-is) (walks-row i within);
         }
       where
         walks-row :
@@ -90,6 +99,7 @@ module _
             → ((other : List ℕ) → isSetting (d .switches) other ≡ true → WalksToOne d other i ↔ WalksToOne d other j)
             ↔ (standsOn (claim .whole) i ≡ standsOn (claim .whole) j)
         walks-row i within =
+            let below = ran .below in
             let rows = claim .one-row i j within below in (
               (λ agree.
                   rows .0
@@ -98,3 +108,10 @@ module _
               (λ same other s.
                   Iff·trans (Iff·symm (claim .reading other i s within)) (Iff·trans (rows .1 same other s) (claim .reading other j s below))),
             )
+
+pub calls-agree :
+    (text before cells : List ℕ) (d : Diagram) (m : Mapped) (setting dark wires : List ℕ) (l : Lighted) (j : ℕ) (v : Walked)
+    → Ran text before cells d m setting dark wires l j v
+    → CallsAgree d m setting wires l j v
+calls-agree text before cells d m setting dark wires l j v ran =
+    agree-by text before cells d m setting dark wires l j v (ran .taken) ran

@@ -18,7 +18,7 @@ use Rattle.cells.specs.Setting.{isSetting}
 use Rattle.diagram.specs.Diagram.{Diagram, idCount}
 use Rattle.diagram.specs.Walk.{walkEnd, walkValue}
 use Rattle.diagram.specs.Wires.{rowCount, columnCount}
-use Rattle.diagram.proofs.Facts.{Facts, Sizes}
+use Rattle.diagram.specs.Facts.{Facts, Sizes}
 use Rattle.diagram.proofs.Walk.{walk-ends}
 use Rattle.diagram.proofs.Canonical.{canonical}
 use Rattle.jobs.specs.Job.{accepted, walk}
@@ -223,6 +223,7 @@ demand-3 text d taken = agrees (accepted-job text d taken .facts) (accepted-job 
     agrees facts sizes =
         record {
           whole = whole d;
+          placed = refl;
           maps = λ room. always-mapped text d room taken;
           switches = refl;
           outputs = refl;

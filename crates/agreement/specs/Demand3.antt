@@ -17,7 +17,7 @@ use Rattle.cells.specs.Setting.{isSetting}
 use Rattle.diagram.specs.Diagram.{Diagram}
 use Rattle.diagram.specs.Walk.{walkEnd}
 use Rattle.jobs.specs.Job.{walk}
-use Rattle.placement.specs.Placement.{outRow}
+use Rattle.placement.specs.Placement.{cells, crossbar, outRow}
 use Rattle.placement.specs.Map.{mapJob}
 use Rattle.conduction.specs.Chain.{Chain, row}
 use Rattle.conduction.specs.Light.{Lit, light, joined}
@@ -42,6 +42,7 @@ Answers b P = ((b ≡ 1) ↔ P) × ((b ≡ 0) ↔ (P → ⊥))
 pub record Demand3 (text : List ℕ) (d : Diagram) : Type 0 where
   -- "Its crossbar is the cells and record that map gives for it into a buffer long enough."
   pub whole : Whole
+  pub placed : whole ≡ record { head = crossbar d; codes = cells d }
   pub maps : (room : ℕ) → size (whole .head) ≤ room → mapJob text room ≡ done whole
   -- the record has the job's switches and outputs, and "An output stands on the row of the id that its line names, or for id 0 on the
   -- last row without cells"

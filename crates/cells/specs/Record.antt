@@ -17,7 +17,7 @@ pub record Whole : Type 0 where
 unfoldable pub size : Crossbar → ℕ
 size x = x .rows * x .columns
 
--- "0 as field of a record"
+-- "0 as .. field of a record"
 unfoldable pub no-record : Crossbar
 no-record = record { rows = 0; columns = 0; switches = 0; outputs = 0; outs = zeros maxOutputs }
 

@@ -22,7 +22,7 @@ maxOutputs = 32
 unfoldable pub maxInput : ℕ
 maxInput = 65535
 
--- "Two programs": the most bytes that either prints. A cell's line has at most 24 bytes, there are at most 128 · 128 cells, and the other
+-- the most bytes that a program prints, reckoned from the limits above: a cell's line has at most 24 bytes, there are at most 128 · 128 cells, and the other
 -- lines have fewer than 512 bytes.
 unfoldable pub maxText : ℕ
 maxText = 393728

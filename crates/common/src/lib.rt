@@ -13,9 +13,9 @@ pub const MAX_SWITCHES: usize = 64;
 pub const MAX_NODES: usize = 254;
 
 pub const MAX_OUTPUTS: usize = 32;
-// Document 01, "Two programs": the most bytes of an input, and the most bytes that a program prints.
+// Document 01, "Two programs": the most bytes of an input.
 pub const MAX_INPUT: usize = 65535;
-
+// The most bytes that a program prints, reckoned from the limits above.
 pub const MAX_TEXT: usize = 393728;
 
 // Document 01, "Grounds for sending a job back": a refusal is its number and a line. Number 0 is no refusal.

@@ -16,7 +16,7 @@ use Rattle.common.proofs.Lists.{eqb-bit, and-left, and-right, and-both, below-o
 use Rattle.cells.specs.Setting.{isSetting}
 use Rattle.diagram.specs.Diagram.{Diagram, idCount, switchAt, lowAt, highAt}
 use Rattle.diagram.specs.Walk.{step, walkEnd}
-use Rattle.diagram.proofs.Facts.{Facts}
+use Rattle.diagram.specs.Facts.{Facts}
 use Rattle.diagram.proofs.Walk.{by-id, switch-terminal, walk-terminal}
 use Rattle.diagram.proofs.Walk.{step-below, step-cases, step-same, walk-zero, walk-one, walk-step, walk-low, walk-high}
 

@@ -1,5 +1,4 @@
 pub mod Canonical
-pub mod Facts
 pub mod Lines
 pub mod Owners
 pub mod Stored

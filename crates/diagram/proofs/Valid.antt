@@ -15,7 +15,7 @@ use Rattle.common.proofs.Outcome.{not-met, others}
 use Rattle.diagram.specs.declared.Node.{Node}
 use Rattle.diagram.specs.Diagram.{Diagram, terminal, entries, entry, idCount, switchAt, labelAt, bare, withNode, withOut}
 use Rattle.diagram.specs.Faults.{oneFault, unordered, sameTest, alike, nodeFault, outFault}
-use Rattle.diagram.proofs.Facts.{Facts, NodeFacts}
+use Rattle.diagram.specs.Facts.{Facts, NodeFacts}
 use Rattle.diagram.proofs.Walk.{switch-terminal}
 
 -- diagrams that lines without a fault of 3 to 9 make: the label of terminal 1, the nodes, and after them the outputs

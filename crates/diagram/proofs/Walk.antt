@@ -11,7 +11,7 @@ use lib.Dec.{eqb}
 use Rattle.common.proofs.Lists.{by-test}
 use Rattle.diagram.specs.Diagram.{Diagram, terminal, entries, entry, idCount, switchAt, lowAt, highAt}
 use Rattle.diagram.specs.Walk.{step, steps, walkEnd, Falls}
-use Rattle.diagram.proofs.Facts.{Facts}
+use Rattle.diagram.specs.Facts.{Facts}
 
 -- an id is 0, 1 or a node's
 pub by-id : (P : ℕ → Type 0) (i : ℕ) → P 0 → P 1 → (2 ≤ i → P i) → P i

@@ -51,6 +51,6 @@ withNode d n = record { switches = d .switches; one = d .one; nodes = d .nodes +
 unfoldable pub withOut : Diagram → ℕ → Diagram
 withOut d i = record { switches = d .switches; one = d .one; nodes = d .nodes; outs = d .outs ++ (i ∷ []) }
 
--- "That table .. has 254 entries of X, L, H and T ..; entries without a line are zeros"
+-- an entry of the node table that has no line: "entries without a line are zeros"
 unfoldable pub no-node : Node
 no-node = record { x = 0; l = 0; h = 0; t = 0 }

@@ -3,3 +3,4 @@ pub mod Walk
 pub mod Wires
 pub mod Faults
 pub mod Stored
+pub mod Facts

@@ -23,7 +23,7 @@ use Rattle.diagram.specs.declared.Node.{Node}
 use Rattle.diagram.specs.Diagram.{Diagram, bare, withNode, withOut}
 use Rattle.diagram.specs.Faults.{headFault, oneFault, nodeFault, outFault}
 use Rattle.diagram.specs.Wires.{rowCount, columnCount, tooLarge}
-use Rattle.diagram.proofs.Facts.{Facts, Sizes}
+use Rattle.diagram.specs.Facts.{Facts, Sizes}
 use Rattle.jobs.specs.Reading.{ReadText, nodeOf, readEnd, readOuts, readNodes, readOne, readHead, readText}
 use Rattle.jobs.specs.Job.{accepted}
 

@@ -15,7 +15,7 @@ use Rattle.common.proofs.Lists.{true-or-false, length-tab}
 use Rattle.diagram.specs.Diagram.{Diagram, idCount, switchAt, labelAt}
 use Rattle.diagram.specs.Stored.{stored, storedNode, fieldAt}
 use Rattle.diagram.specs.Wires.{rowOwners, rowCount, columnCount}
-use Rattle.diagram.proofs.Facts.{Facts, Sizes}
+use Rattle.diagram.specs.Facts.{Facts, Sizes}
 use Rattle.diagram.proofs.Stored.{switch-stored, low-stored, high-stored, field-node}
 use Rattle.placement.specs.Placement.{cells, crossbar}
 use Rattle.placement.specs.Stores.{labels, Numbered, headFrom, ownPlace, edgePlace, edgeCode, withOn, withEdges, withAll, OnFits, EdgesFit}

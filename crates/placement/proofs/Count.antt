@@ -11,7 +11,7 @@ use Rattle.common.specs.Lists.{bit}
 use Rattle.common.proofs.Lists.{by-test, equal-or-not}
 use Rattle.diagram.specs.Diagram.{Diagram, idCount, entry, entries, terminal, labelAt}
 use Rattle.diagram.specs.Wires.{hasRow, hasColumn, owners, rowOwners, columnOwners, rowCount, columnCount, namesZero}
-use Rattle.diagram.proofs.Facts.{Facts}
+use Rattle.diagram.specs.Facts.{Facts}
 
 -- a label `b`
 unfoldable pub hasBoth : Diagram → ℕ → Bool

@@ -18,7 +18,7 @@ use Rattle.cells.specs.Record.{Whole, size}
 use Rattle.diagram.specs.Diagram.{Diagram}
 use Rattle.diagram.specs.Stored.{stored}
 use Rattle.diagram.specs.Wires.{rowCount, columnCount}
-use Rattle.diagram.proofs.Facts.{Facts, Sizes}
+use Rattle.diagram.specs.Facts.{Facts, Sizes}
 use Rattle.jobs.specs.declared.JobRead.{JobRead}
 use Rattle.jobs.specs.Job.{accepted, table}
 use Rattle.jobs.specs.Answer.{jobOf, jobRead, Holds}

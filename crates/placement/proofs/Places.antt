@@ -20,7 +20,7 @@ use Rattle.cells.proofs.Codes.{code-cell}
 use Rattle.diagram.specs.Diagram.{Diagram, idCount, switchAt, lowAt, highAt}
 use Rattle.diagram.specs.Walk.{step}
 use Rattle.diagram.specs.Wires.{hasRow, hasColumn, rowOwners, columnOwners, rowOf, columnOf, rowCount, columnCount}
-use Rattle.diagram.proofs.Facts.{NodeFacts}
+use Rattle.diagram.specs.Facts.{NodeFacts}
 use Rattle.diagram.proofs.Walk.{step-low, step-high}
 use Rattle.placement.specs.Placement.{edge, meeting, codeAt, cells}
 use Rattle.placement.proofs.Owners.{owner-at, number-below}

@@ -17,7 +17,7 @@ use Rattle.diagram.specs.Diagram.{Diagram, terminal, entries, entry, idCount, l
 use Rattle.diagram.specs.Faults.{alike}
 use Rattle.diagram.specs.Walk.{step, walkEnd}
 use Rattle.diagram.specs.Wires.{owners, hasRow, hasColumn, rowOwners, columnOwners, rowOf, columnOf, namesZero, rowCount, columnCount}
-use Rattle.diagram.proofs.Facts.{Facts}
+use Rattle.diagram.specs.Facts.{Facts}
 use Rattle.diagram.proofs.Walk.{step-cases, step-below, walk-zero, walk-one, walk-step}
 use Rattle.conduction.proofs.Chains.{chain-within}
 use Rattle.conduction.specs.Chain.{Wire, row, column, Chain, here, across, back, Within}

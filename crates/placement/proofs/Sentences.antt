@@ -16,7 +16,7 @@ use Rattle.cells.specs.Code.{codeOf}
 use Rattle.diagram.specs.Diagram.{Diagram, idCount, entry, entries, terminal, switchAt, lowAt, highAt, labelAt}
 use Rattle.diagram.specs.Faults.{alike}
 use Rattle.diagram.specs.Wires.{hasRow, hasColumn, owners, rowOwners, columnOwners, rowOf, columnOf, namesZero, rowCount, columnCount}
-use Rattle.diagram.proofs.Facts.{Facts}
+use Rattle.diagram.specs.Facts.{Facts}
 use Rattle.placement.specs.Placement.{edge, meeting, codeAt, cells, outRow}
 use Rattle.placement.proofs.Owners.{number-below, owner-has, owner-below, owner-number, number-injective}
 use Rattle.placement.proofs.Places.{within-rows, column-below, row-owner, column-owner, meeting-same, meeting-down, meeting-up, meeting-over}

@@ -17,7 +17,7 @@ use Rattle.cells.specs.Code.{codeOf}
 use Rattle.cells.specs.Record.{size, inRange, sound}
 use Rattle.diagram.specs.Diagram.{Diagram}
 use Rattle.diagram.specs.Wires.{rowCount, columnCount}
-use Rattle.diagram.proofs.Facts.{Facts, Sizes}
+use Rattle.diagram.specs.Facts.{Facts, Sizes}
 use Rattle.placement.specs.Placement.{codeAt, cells, outRow, crossbar}
 use Rattle.placement.proofs.Places.{within-rows}
 use Rattle.placement.proofs.Readings.{one-row, outRow-below, out-on-row}

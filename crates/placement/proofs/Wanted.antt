@@ -14,7 +14,7 @@ use Rattle.common.proofs.Lists.{by-test, below-or-not, length-grid, length-padd
 use Rattle.cells.specs.Code.{codeOf}
 use Rattle.diagram.specs.Diagram.{Diagram, idCount, switchAt, labelAt}
 use Rattle.diagram.specs.Wires.{hasRow, hasColumn, rowOf, columnOf, rowCount, columnCount}
-use Rattle.diagram.proofs.Facts.{Facts}
+use Rattle.diagram.specs.Facts.{Facts}
 use Rattle.placement.specs.Placement.{codeAt, cells}
 use Rattle.placement.specs.Stores.{either, ownPlace, edgePlace, edgeCode}
 use Rattle.placement.proofs.Places.{within-rows, column-below}

@@ -68,7 +68,7 @@ withEdges d high xs children =
 unfoldable pub withAll : Diagram → ℕ → List ℕ → List ℕ → List ℕ → ℕ → List ℕ
 withAll d n xs ls hs room = withEdges d true xs hs n (withEdges d false xs ls n (withOn d (2 + n) (zeros room)))
 
--- all these cells stand in a buffer of this length, and each code is a byte
+-- all on cells stand in a buffer of this length
 unfoldable pub OnFits : Diagram → ℕ → ℕ → Type 0
 OnFits d ids room = (i : ℕ) → i < ids → labelAt d i ≡ 3 → ownPlace d i < room
 

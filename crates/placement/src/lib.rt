@@ -17,7 +17,7 @@ ghost use lib.ListN.{length, take};
 ghost use Rattle.common.specs.Lists.{padded};
 ghost use Rattle.cells.specs.Record.{size};
 ghost use Rattle.diagram.specs.Stored.{stored};
-ghost use Rattle.diagram.proofs.Facts.{Facts, Sizes};
+ghost use Rattle.diagram.specs.Facts.{Facts, Sizes};
 ghost use Rattle.placement.specs.Placement as placement;
 
 // Map's answer: the refusal, and the record, zeros after a refusal.

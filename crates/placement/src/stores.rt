@@ -104,7 +104,7 @@ pub fn on_cells(
     }
 }
 
-// The cell of the edge from a node to a child. "Edges to terminal 0 have no cell."
+// The cell of the edge from a node to a child. "Terminal 0 has no wire, and edges to it have no cell."
 fn edge_cell(
     ts: &[u16; MAX_NODES],
     one: u16,

@@ -1,5 +1,5 @@
--- What holds of a diagram whose lines break none of grounds 3 to 9, as plain facts. The theorems use these; the reader's tests give
--- them.
+-- What holds of a diagram whose lines break none of grounds 2 to 9 and 11, as plain facts: `accepted-job` in jobs/proofs/Accepted.antt
+-- shows them of every accepted job. Theorems use them, and so does the contract of the placement.
 use Prim.Native.Nat.{ℕ, _≤_, _<_}
 use mathlib.Core.Path.{_≡_}
 use mathlib.Core.Logic.{_⊎_}
