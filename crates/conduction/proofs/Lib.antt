@@ -8,3 +8,4 @@ pub mod Marks
 pub mod Counting
 pub mod Shown
 pub mod Promise
+pub mod Sides

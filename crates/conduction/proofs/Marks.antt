@@ -282,3 +282,12 @@ marks-next m n joined t w l l′ l″ p q first second =
     (λ v.
     rw (marks-front t reaches l l′ p first w) (some-more (λ u. meets m n joined u v && eqb (getD l u 0) (t + 1)) w))
     (marks-then (t + 2) reaches lit-last l l′ l″ p q (omega arith) first second)
+
+-- the same wires named another way
+pub marks-same :
+    (new : ℕ) (f g : ℕ → Bool) (l l′ : List ℕ) (p : Bool)
+    → ((v : ℕ) → f v ≡ g v)
+    → Marks new f l l′ p
+    → Marks new g l l′ p
+marks-same new f g l l′ p same mk =
+    record { stamps = λ v. mk .stamps v ∙ ap (λ (b : Bool). stamp new b (getD l v 0)) (same v); none = mk .none; some = mk .some }

@@ -4,12 +4,12 @@
 use cells::Cell;
 ghost use mathlib.Core.Path.{_≡_};
 ghost use mathlib.Core.Bool.{_&&_};
-ghost use Prim.Native.Nat.{_+_, _≤_, _<_};
+ghost use Prim.Native.Nat.{ℕ, _+_, _≤_, _<_};
 ghost use lib.Dec.{eqb};
 ghost use lib.ListN.{length, getD};
 ghost use Rattle.cells.specs.Code.{cellOf};
 ghost use Rattle.cells.specs.Conducts.{conducts, joins};
-ghost use Rattle.conduction.specs.First.{meets, startStamps, Sized, Marks, Rounded, Counted};
+ghost use Rattle.conduction.specs.First.{firstPlace, pastPlace, Side, meets, startStamps, Sized, Marks, Rounded, Counted};
 
 // One wire gets the new stamp if it is dark and a cell conducts. The answer is whether it did.
 fn reach(
@@ -99,14 +99,32 @@ fn from_wire(
     from_column(cells, setting, m, n, w - m, stamps, t + 2)
 }
 
-// Round t + 1. The answer is whether it added a wire.
+// The first of the wires that round t can light: rows where t is even, columns where it is odd.
+fn first_place(m: usize, t: u16) -> usize
+    ensures { λ r. ⌜ r ≡ firstPlace m t ⌝ }
+{
+    if t % 2 == 0 { 0 } else { m }
+}
+
+// The place past the last of them.
+fn past_place(m: usize, n: usize, t: u16) -> usize
+    requires { ⌜ m + n < 65534 ⌝ }
+    ensures { λ r. ⌜ r ≡ pastPlace m n t ⌝ }
+{
+    if t % 2 == 0 { m } else { m + n }
+}
+
+// Round t + 1. The answer is whether it added a wire. Only the wires that round t can light are looked at.
 fn round(cells: &[u8], setting: &[u8], m: usize, n: usize, stamps: &mut [u16], t: u16) -> bool
     requires { ⌜ (t < 65534) × Sized m n (now cells) (now stamps) ⌝ }
+    requires { ⌜ m + n < 65534 ⌝ }
+    requires { ⌜ ((u : ℕ) → getD (now stamps) u 0 ≡ t + 1 → Side m n t u) ⌝ }
     ensures { λ a. ⌜ Rounded m n (joins (now (cells .entry)) n (now (setting .entry))) t (now (stamps .entry)) (now (stamps .exit)) a ⌝ }
 {
     let mut added = false;
-    let mut w = 0;
-    while w < m + n {
+    let mut w = first_place(m, t);
+    let past = past_place(m, n, t);
+    while w < past {
         added = from_wire(cells, setting, m, n, w, stamps, t) | added;
         w += 1;
     }

@@ -6,6 +6,7 @@ use lib.ListN.{length}
 use Rattle.cells.specs.Conducts.{joins}
 use Rattle.conduction.specs.First.{stampsAfter}
 use Rattle.conduction.proofs.Counting.{Going, rest-found, going-on, none-rest}
+use Rattle.conduction.proofs.Sides.{sides}
 use Rattle.conduction.proofs.stamping.rounds.Statement.{statement}
 use Rattle.conduction.proofs.stamping.rounds.Tie as tie
 use Rattle.conduction.proofs.stamping.rounds.Reads as reads
@@ -34,12 +35,22 @@ loop-holds c =
 round-requires : tie.Need-round-requires Inv-loop μ-loop
 round-requires c κs =
     let at-loop = c .before in
-    let start = at-loop .before .before .before .before in (
-      omega (arith, at-loop .loop .inv .1 .below, start .pre .1),
-      record {
-        cells-fit = start .pre .3 .cells-fit;
-        wires-fit = omega (arith, at-loop .loop .inv .0, start .pre .3 .wires-fit);
-      },
+    let start = at-loop .before .before .before .before in
+    let args = start .args in
+    let so-far = at-loop .loop .inv .1 .so-far in (
+      (
+        omega (arith, at-loop .loop .inv .1 .below, start .pre .1),
+        record {
+          cells-fit = start .pre .3 .cells-fit;
+          wires-fit = omega (arith, at-loop .loop .inv .0, start .pre .3 .wires-fit);
+        },
+      ),
+      (
+        start .pre .1,
+        λ u lit.
+            sides (length (args .stamps .now)) (args .m) (args .n) (joins (args .cells .now) (args .n) (args .setting .now)) (start .pre .0)
+            (start .pre .3 .wires-fit) (at-loop .loop .t) u (at-loop .loop .t) (rw so-far at lit),
+      ),
     )
 
 add-t : tie.Need-add-t Inv-loop μ-loop
