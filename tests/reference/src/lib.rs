@@ -1,5 +1,6 @@
 //! A second implementation of the crossbar mapper and its lamp test, written
-//! from document 01 alone. It is meant to be compared with the first one, so
+//! from document 01 and a list of readings of it, without the definitions of
+//! the first one. It is meant to be compared with the first one, so
 //! it is literal and plain: every function follows one paragraph of the
 //! document, which its comment names, and nothing is done for speed.
 //!
