@@ -7,7 +7,7 @@ use figures::Figure;
 ghost use mathlib.Core.Path.{_≡_};
 ghost use Rattle.forms.specs.Template.{labelOf};
 ghost use Rattle.forms.specs.Pattern.{isItem, itemAt, valuesBy, refusedValues, answerOf};
-ghost use Rattle.forms.specs.Form.{switchOf, cellLine, formOf, formIn};
+ghost use Rattle.forms.specs.Form.{switchOf, jobOf, nodeOf, outOf, sizeOf, cellLine, formOf, formIn};
 ghost use Rattle.figures.specs.Line.{linesOf};
 ghost use lib.ListN.{drop};
 
@@ -210,17 +210,59 @@ fn read_cell(line: &[u8], number: u32) -> Form
     })
 }
 
+// The form `(job V N K)` of its values.
+fn job_of(job: Values) -> Form
+    ensures { λ r. ⌜ r ≡ jobOf (job .v) ⌝ }
+{
+    Form::Job(JobForm {
+        switches: job.v[0],
+        nodes: job.v[1],
+        outputs: job.v[2],
+    })
+}
+
+// The form `(node I X (L H) T)` of its values.
+fn node_of(node: Values) -> Form
+    ensures { λ r. ⌜ r ≡ nodeOf (node .v) ⌝ }
+{
+    Form::Node(NodeForm {
+        id: node.v[0],
+        x: node.v[1],
+        l: node.v[2],
+        h: node.v[3],
+        t: node.v[4],
+    })
+}
+
+// The form `(out J I)` of its values.
+fn out_of(out: Values) -> Form
+    ensures { λ r. ⌜ r ≡ outOf (out .v) ⌝ }
+{
+    Form::Out(OutForm {
+        number: out.v[0],
+        target: out.v[1],
+    })
+}
+
+// The form `(crossbar R C V K)` of its values.
+fn size_of(size: Values) -> Form
+    ensures { λ r. ⌜ r ≡ sizeOf (size .v) ⌝ }
+{
+    Form::Size(SizeForm {
+        rows: size.v[0],
+        columns: size.v[1],
+        switches: size.v[2],
+        outputs: size.v[3],
+    })
+}
+
 // The form of one line, given without its line feed. A line that is no form is refused with ground 1 and its number.
 pub fn read_form(line: &[u8], number: u32) -> Form
     ensures { λ r. ⌜ r ≡ formOf (now (line .entry)) number ⌝ }
 {
     let job = read_values(line, b"(job # # #)");
     if job.ok {
-        return Form::Job(JobForm {
-            switches: job.v[0],
-            nodes: job.v[1],
-            outputs: job.v[2],
-        });
+        return job_of(job);
     }
     let one = read_values(line, b"(one @)");
     if one.ok {
@@ -228,20 +270,11 @@ pub fn read_form(line: &[u8], number: u32) -> Form
     }
     let node = read_values(line, b"(node # # (# #) @)");
     if node.ok {
-        return Form::Node(NodeForm {
-            id: node.v[0],
-            x: node.v[1],
-            l: node.v[2],
-            h: node.v[3],
-            t: node.v[4],
-        });
+        return node_of(node);
     }
     let out = read_values(line, b"(out # #)");
     if out.ok {
-        return Form::Out(OutForm {
-            number: out.v[0],
-            target: out.v[1],
-        });
+        return out_of(out);
     }
     let end = read_values(line, b"(end)");
     if end.ok {
@@ -249,12 +282,7 @@ pub fn read_form(line: &[u8], number: u32) -> Form
     }
     let size = read_values(line, b"(crossbar # # # #)");
     if size.ok {
-        return Form::Size(SizeForm {
-            rows: size.v[0],
-            columns: size.v[1],
-            switches: size.v[2],
-            outputs: size.v[3],
-        });
+        return size_of(size);
     }
     read_cell(line, number)
 }

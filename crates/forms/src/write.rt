@@ -1,15 +1,12 @@
 // A line written from a pattern and its values.
+use super::FIGURE;
+use super::LABEL;
 ghost use mathlib.Core.Path.{_≡_};
 ghost use mathlib.Core.List.{_∷_, []};
 ghost use lib.ListN.{getD};
 ghost use Rattle.figures.specs.Figure.{decimal};
 ghost use Rattle.forms.specs.Template.{letterOf};
 ghost use Rattle.forms.specs.Filled.{itemOf, uses, filledLine, Written};
-
-// The bytes that stand for a figure and for a label in a pattern: `#` and `@`.
-const FIGURE: u8 = 35;
-
-const LABEL: u8 = 64;
 
 // The most values of a line.
 pub const MAX_VALUES: usize = 5;

@@ -28,20 +28,15 @@ slice-aggregate-read-values c = search needs
 read-values-requires : tie.Need-read-values-requires
 read-values-requires c κs = search needs
 
-element-copy-out-t21 : tie.Need-element-copy-out-t21
-element-copy-out-t21 c = search needs
-
-element-copy-out-t24 : tie.Need-element-copy-out-t24
-element-copy-out-t24 c = search needs
-
-element-copy-out-t27 : tie.Need-element-copy-out-t27
-element-copy-out-t27 c = search needs
+job-of-requires : tie.Need-job-of-requires
+job-of-requires c κs = search needs
 
 returns : tie.Need-returns
-unfolding bytes formOf jobOf
+unfolding bytes formOf
 returns c =
-    let x = c .before .before .before in
-    taken (job-answer _ _ (x .before .read-values .ensures)) jobOf _ job-same (x .if1 .taken)
+    let x = c .before in
+    c .job-of .ensures
+    ∙ taken (job-answer _ _ (x .before .read-values .ensures)) jobOf _ job-same (x .if1 .taken)
 
 slice-aggregate-read-values-2 : tie.Need-slice-aggregate-read-values-2
 slice-aggregate-read-values-2 c = search needs
@@ -49,8 +44,8 @@ slice-aggregate-read-values-2 c = search needs
 read-values-requires-2 : tie.Need-read-values-requires-2
 read-values-requires-2 c κs = search needs
 
-element-copy-out-t33 : tie.Need-element-copy-out-t33
-element-copy-out-t33 c = search needs
+element-copy-out-t23 : tie.Need-element-copy-out-t23
+element-copy-out-t23 c = search needs
 
 returns-2 : tie.Need-returns-2
 unfolding bytes formOf oneOf
@@ -66,28 +61,17 @@ slice-aggregate-read-values-3 c = search needs
 read-values-requires-3 : tie.Need-read-values-requires-3
 read-values-requires-3 c κs = search needs
 
-element-copy-out-t38 : tie.Need-element-copy-out-t38
-element-copy-out-t38 c = search needs
-
-element-copy-out-t41 : tie.Need-element-copy-out-t41
-element-copy-out-t41 c = search needs
-
-element-copy-out-t44 : tie.Need-element-copy-out-t44
-element-copy-out-t44 c = search needs
-
-element-copy-out-t47 : tie.Need-element-copy-out-t47
-element-copy-out-t47 c = search needs
-
-element-copy-out-t50 : tie.Need-element-copy-out-t50
-element-copy-out-t50 c = search needs
+node-of-requires : tie.Need-node-of-requires
+node-of-requires c κs = search needs
 
 returns-3 : tie.Need-returns-3
-unfolding bytes formOf nodeOf
+unfolding bytes formOf
 returns-3 c =
-    let x = c .before .before .before .before .before in
+    let x = c .before in
     let e2 = x .before .before .before in
     let e1 = e2 .before .before .before in
-    taken (node-answer _ _ (x .before .read-values3 .ensures)) nodeOf _ node-same (x .if3 .taken)
+    c .node-of .ensures
+    ∙ taken (node-answer _ _ (x .before .read-values3 .ensures)) nodeOf _ node-same (x .if3 .taken)
     ∙ passed (one-answer _ _ (e2 .before .read-values2 .ensures)) oneOf _ (e2 .if2 .left)
     ∙ passed (job-answer _ _ (e1 .before .read-values .ensures)) jobOf _ (e1 .if1 .left)
 
@@ -97,20 +81,18 @@ slice-aggregate-read-values-4 c = search needs
 read-values-requires-4 : tie.Need-read-values-requires-4
 read-values-requires-4 c κs = search needs
 
-element-copy-out-t56 : tie.Need-element-copy-out-t56
-element-copy-out-t56 c = search needs
-
-element-copy-out-t59 : tie.Need-element-copy-out-t59
-element-copy-out-t59 c = search needs
+out-of-requires : tie.Need-out-of-requires
+out-of-requires c κs = search needs
 
 returns-4 : tie.Need-returns-4
-unfolding bytes formOf outOf
+unfolding bytes formOf
 returns-4 c =
-    let x = c .before .before in
+    let x = c .before in
     let e3 = x .before .before .before in
     let e2 = e3 .before .before .before in
     let e1 = e2 .before .before .before in
-    taken (out-answer _ _ (x .before .read-values4 .ensures)) outOf _ out-same (x .if4 .taken)
+    c .out-of .ensures
+    ∙ taken (out-answer _ _ (x .before .read-values4 .ensures)) outOf _ out-same (x .if4 .taken)
     ∙ passed (node-answer _ _ (e3 .before .read-values3 .ensures)) nodeOf _ (e3 .if3 .left)
     ∙ passed (one-answer _ _ (e2 .before .read-values2 .ensures)) oneOf _ (e2 .if2 .left)
     ∙ passed (job-answer _ _ (e1 .before .read-values .ensures)) jobOf _ (e1 .if1 .left)
@@ -141,28 +123,20 @@ slice-aggregate-read-values-6 c = search needs
 read-values-requires-6 : tie.Need-read-values-requires-6
 read-values-requires-6 c κs = search needs
 
-element-copy-out-t67 : tie.Need-element-copy-out-t67
-element-copy-out-t67 c = search needs
-
-element-copy-out-t70 : tie.Need-element-copy-out-t70
-element-copy-out-t70 c = search needs
-
-element-copy-out-t73 : tie.Need-element-copy-out-t73
-element-copy-out-t73 c = search needs
-
-element-copy-out-t76 : tie.Need-element-copy-out-t76
-element-copy-out-t76 c = search needs
+size-of-requires : tie.Need-size-of-requires
+size-of-requires c κs = search needs
 
 returns-6 : tie.Need-returns-6
-unfolding bytes formOf sizeOf
+unfolding bytes formOf
 returns-6 c =
-    let x = c .before .before .before .before in
+    let x = c .before in
     let e5 = x .before .before .before in
     let e4 = e5 .before .before .before in
     let e3 = e4 .before .before .before in
     let e2 = e3 .before .before .before in
     let e1 = e2 .before .before .before in
-    taken (size-answer _ _ (x .before .read-values6 .ensures)) sizeOf _ size-same (x .if6 .taken)
+    c .size-of .ensures
+    ∙ taken (size-answer _ _ (x .before .read-values6 .ensures)) sizeOf _ size-same (x .if6 .taken)
     ∙ passed (end-answer _ _ (e5 .before .read-values5 .ensures)) endOf _ (e5 .if5 .left)
     ∙ passed (out-answer _ _ (e4 .before .read-values4 .ensures)) outOf _ (e4 .if4 .left)
     ∙ passed (node-answer _ _ (e3 .before .read-values3 .ensures)) nodeOf _ (e3 .if3 .left)
@@ -195,36 +169,26 @@ read-form-spec =
     (tie.spec
     slice-aggregate-read-values
     read-values-requires
-    element-copy-out-t21
-    element-copy-out-t24
-    element-copy-out-t27
+    job-of-requires
     returns
     slice-aggregate-read-values-2
     read-values-requires-2
-    element-copy-out-t33
+    element-copy-out-t23
     returns-2
     slice-aggregate-read-values-3
     read-values-requires-3
-    element-copy-out-t38
-    element-copy-out-t41
-    element-copy-out-t44
-    element-copy-out-t47
-    element-copy-out-t50
+    node-of-requires
     returns-3
     slice-aggregate-read-values-4
     read-values-requires-4
-    element-copy-out-t56
-    element-copy-out-t59
+    out-of-requires
     returns-4
     slice-aggregate-read-values-5
     read-values-requires-5
     returns-5
     slice-aggregate-read-values-6
     read-values-requires-6
-    element-copy-out-t67
-    element-copy-out-t70
-    element-copy-out-t73
-    element-copy-out-t76
+    size-of-requires
     returns-6
     read-cell-requires
     returns-7)
