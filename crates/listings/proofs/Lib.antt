@@ -2,6 +2,7 @@ pub mod Answers
 pub mod Cells
 pub mod Handing
 pub mod Kept
+pub mod Lengths
 pub mod Loaded
 pub mod Printed
 pub mod Reader
