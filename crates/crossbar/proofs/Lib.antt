@@ -3,3 +3,5 @@ pub mod Numbers
 pub mod Calls
 pub mod Deliveries
 pub mod ReadBack
+pub mod Ends
+pub mod Parts

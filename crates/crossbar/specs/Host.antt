@@ -1,5 +1,5 @@
 -- The five calls as the buyer's C program meets them, on numbers and byte slices. Each answers one number: the refusal's number times
--- 2 to the 56th, plus the line; or, where nothing is refused, the call's value.
+-- 2 to the 56th, plus the line; or, where nothing is refused, the call's value. Parts.antt says that these are read back from it.
 use Prim.Native.Nat.{ℕ, _+_, _*_, _^_, _≤_}
 use mathlib.Core.Path.{_≡_}
 use mathlib.Core.Bool.{true, false, not}
