@@ -1,7 +1,6 @@
 -- Document 01, "Job sheets": the starred ones, A to H, as one table. Each entry has what the definitions give and what the sheet
 -- says; proofs/Sheets.antt shows that they are equal.
 use Prim.Native.Nat.{ℕ, _+_}
-use Prim.Native.String.{String}
 use mathlib.Core.List.{List, [], _∷_, _++_}
 use lib.ListN.{take}
 use Rattle.common.specs.Limits.{maxRows, maxColumns}
@@ -11,7 +10,7 @@ use Rattle.cells.specs.declared.Cell.the-variants.{On, Yes, No}
 use Rattle.cells.specs.Code.{codeOf}
 use Rattle.cells.specs.Record.{Whole}
 use Rattle.diagram.specs.Diagram.{Diagram}
-use Rattle.conduction.specs.Light.{Lit, light}
+use Rattle.conduction.specs.Light.{light}
 use Rattle.placement.specs.Map.{mapJob}
 use Rattle.listings.specs.Loading.{load}
 use Rattle.programs.specs.Programs.{mapProgram, lightProgram}

@@ -1,7 +1,7 @@
 -- The crossbar record and ground 12 on it.
 use Prim.Native.Nat.{ℕ, _+_, _*_}
 use mathlib.Core.Bool.{Bool, _&&_}
-use mathlib.Core.List.{List, []}
+use mathlib.Core.List.{List}
 use lib.ListN.{length, take, drop}
 use lib.Dec.{eqb, leb, ltb}
 use Rattle.cells.specs.declared.Crossbar.{Crossbar}

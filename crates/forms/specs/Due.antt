@@ -1,9 +1,8 @@
 -- Document 01, "Job text": "Each line yields one form, or a refusal with its number and line, and a line that is not the form due
 -- stops the reading."
-use Prim.Native.Nat.{ℕ, _+_}
-use mathlib.Core.Bool.{Bool, true, false}
-use mathlib.Core.Option.{Option, some, none}
-use mathlib.Core.List.{List, [], _∷_}
+use Prim.Native.Nat.{ℕ}
+use mathlib.Core.Option.{some, none}
+use mathlib.Core.List.{List}
 use Rattle.common.specs.Outcome.{Outcome, done, refused}
 use Rattle.figures.specs.Line.{Lines, left, _⏎_}
 use Rattle.forms.specs.Template.{Template, values}

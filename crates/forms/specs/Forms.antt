@@ -1,7 +1,7 @@
 -- The lines of document 01, one template each: "One blank stands between items, none elsewhere."
 use Prim.Native.Nat.{ℕ, zero, suc}
-use mathlib.Core.List.{List, [], _∷_, _++_}
-use Rattle.forms.specs.Template.{Template, Item, word, figure, label}
+use mathlib.Core.List.{[], _∷_}
+use Rattle.forms.specs.Template.{Template, word, figure, label}
 
 -- "Job text", 1: `(job V N K)`
 unfoldable pub jobForm : Template

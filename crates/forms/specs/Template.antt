@@ -2,7 +2,7 @@
 -- takes the whole line; its values are the figures and labels in turn.
 use Prim.Native.Nat.{ℕ}
 use Prim.Native.String.{String}
-use mathlib.Core.Bool.{Bool, true, false}
+use mathlib.Core.Bool.{true, false}
 use mathlib.Core.Option.{Option, some, none, Option·map}
 use mathlib.Core.List.{List, [], _∷_, _++_}
 use lib.ListN.{getD, drop}

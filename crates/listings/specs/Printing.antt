@@ -4,8 +4,6 @@ use mathlib.Core.Path.{_≡_}
 use mathlib.Core.List.{List}
 use lib.ListN.{length, take, drop}
 use Rattle.common.specs.Outcome.{Outcome, refusalOf, valueOf, bufferOf}
-use Rattle.cells.specs.declared.Crossbar.{Crossbar}
-use Rattle.cells.specs.Record.{size}
 use Rattle.listings.specs.declared.printing.Printed.{Printed}
 use Rattle.listings.specs.Listing.{cellLines, outLines}
 
