@@ -48,6 +48,16 @@ cell-text-more cells n r c x d h l =
     ∙ rw (place-row r c n h, place-column r c n h, d)
     (ap (λ (m : ℕ). cellLine r c (cellOf (getD cells p 0)) ++ cellText cells n m (r * n + n)) q)
 
+-- one cell more, which is off
+pub cell-text-off :
+    (cells : List ℕ) (n r c : ℕ)
+    → getD cells (r * n + c) 0 ≡ 0
+    → c < n
+    → r * n + n ≤ length cells
+    → cellText cells n (r * n + c) (r * n + n) ≡ cellText cells n (r * n + (c + 1)) (r * n + n)
+unfolding cellLine cellOf
+cell-text-off cells n r c z h l = cell-text-more cells n r c Off (sym (ap cellOf z)) h l
+
 -- a place at which nothing is passed yet
 pub cell-text-from : (cells : List ℕ) (n p q e : ℕ) → p ≡ q → cellText cells n p e ≡ cellText cells n q e
 cell-text-from cells n p q e h = ap (λ (m : ℕ). cellText cells n m e) h

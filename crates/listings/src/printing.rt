@@ -39,7 +39,7 @@ fn write_cell(out: &mut [u8], at: usize, r: u32, c: u32, cell: Cell) -> Wrote
     }
 }
 
-// The lines of the cells of a row, column by column.
+// The lines of the cells of a row, column by column. Most cells of a crossbar are off and have no line, so they are passed over here.
 fn write_row(out: &mut [u8], at: usize, cells: &[u8], r: usize, columns: usize) -> Wrote
     requires { ⌜ (at ≤ length (now out)) × RowIn (now cells) r columns ⌝ }
     ensures { λ w. ⌜ Written (now (out .entry)) (now (out .exit)) at (cellText (now (cells .entry)) columns (r * columns) (r * columns + columns)) w ⌝ }
@@ -48,10 +48,12 @@ fn write_row(out: &mut [u8], at: usize, cells: &[u8], r: usize, columns: usize) 
     let mut next = at;
     let mut c = 0;
     while c < columns {
-        let cell = Cell::from_code(cells[start + c]);
-        match write_cell(out, next, r as u32, c as u32, cell) {
-            Wrote::Next(past) => next = past,
-            Wrote::Full => return Wrote::Full,
+        let code = cells[start + c];
+        if code != Cell::OFF {
+            match write_cell(out, next, r as u32, c as u32, Cell::from_code(code)) {
+                Wrote::Next(past) => next = past,
+                Wrote::Full => return Wrote::Full,
+            }
         }
         c += 1;
     }

@@ -1,13 +1,22 @@
--- `listings::printing::write_row` meets its contract: the lines of the row's cells from column c on are still to be written.
+-- `listings::printing::write_row` meets its contract: the lines of the row's cells from column c on are still to be written. A cell
+-- that is off has no line.
 use borrow.Author.Needs.{needs}
-use Prim.Native.Nat.{_+_, _*_, _-_, _≤_}
+use Prim.Native.Nat.{ℕ, _+_, _*_, _-_, _≤_}
+use mathlib.Core.Path.{_≡_, refl, sym}
+use mathlib.Core.List.{List}
+use mathlib.Core.Logic.{⊎-elim}
 use native.Mathlib.Omega.{arith}
 use lib.ListN.{length}
 use Rattle.forms.proofs.Parts.{Going, going-start, going-part, going-full, going-end, written-next, written-full}
 use Rattle.listings.specs.Printing.{cellText}
-use Rattle.listings.proofs.Text.{cell-text-none, cell-text-from, cell-text-more}
+use Rattle.listings.proofs.Text.{cell-text-none, cell-text-from, cell-text-more, cell-text-off}
 use Rattle.listings.proofs.printing.write_row.Statement.{statement}
 use Rattle.listings.proofs.printing.write_row.Tie as tie
+
+-- the same buffer, position and rest, said otherwise
+going-as :
+    {s whole t u r q : List ℕ} {at n m : ℕ} → u ≡ t → m ≡ n → q ≡ r → Going s at whole t n r → Going s at whole u m q
+going-as e d f g = rw (e, d, f) g
 
 abbrev Inv-loop : tie.InvT-loop
 Inv-loop out₀ at cells r columns start next₀ c₀ out next c = Going out₀ at (cellText cells columns (r * columns) (r * columns + columns)) out next (cellText cells columns (r * columns + c) (r * columns + columns)) × (c ≤ columns)
@@ -25,11 +34,11 @@ loop-holds c =
       omega arith,
     )
 
-add-from-code : tie.Need-add-from-code Inv-loop μ-loop
-add-from-code c = omega arith
+add-code : tie.Need-add-code Inv-loop μ-loop
+add-code c = omega arith
 
-shared-slice-read-from-code : tie.Need-shared-slice-read-from-code Inv-loop μ-loop
-shared-slice-read-from-code c = omega arith
+shared-slice-read-code : tie.Need-shared-slice-read-code Inv-loop μ-loop
+shared-slice-read-code c = omega arith
 
 from-code-requires : tie.Need-from-code-requires Inv-loop μ-loop
 from-code-requires c κs = search needs
@@ -54,9 +63,9 @@ same-length c = search needs
 
 returns : tie.Need-returns Inv-loop μ-loop
 returns c =
-    let l = c .before .before .before .before .before .before .before .before .before in
-    let a = c .before .before .before .before .before .before .before .before .before .before .before .before .args in
-    let more = cell-text-more (a .cells .now) (a .columns) (a .r) (l .loop .c) (c .before .before .before .before .before .before .from-code .result) (c .before .before .before .before .before .before .from-code .ensures) (omega arith) (omega arith) in
+    let l = c .before .before .before .before .before .before .before .before .before .before in
+    let a = c .before .before .before .before .before .before .before .before .before .before .before .before .before .args in
+    let more = cell-text-more (a .cells .now) (a .columns) (a .r) (l .loop .c) (c .before .before .before .before .before .from-code .result) (c .before .before .before .before .before .from-code .ensures) (omega arith) (omega arith) in
     written-full (going-full _ (l .loop .inv .0) more (c .before .before .before .before .write-cell .ensures .full (c .enum-told .given .1)))
 
 add-c : tie.Need-add-c Inv-loop μ-loop
@@ -67,10 +76,16 @@ loop-less c = omega arith
 
 loop-again : tie.Need-loop-again Inv-loop μ-loop
 loop-again c =
-    let l = c .before .before .before .before .before .before .before .before .before .before in
-    let a = c .before .before .before .before .before .before .before .before .before .before .before .before .before .args in
-    let more = cell-text-more (a .cells .now) (a .columns) (a .r) (l .loop .c) (c .before .before .before .before .before .before .before .from-code .result) (c .before .before .before .before .before .before .before .from-code .ensures) (omega arith) (omega arith) in (
-      going-part _ (l .loop .inv .0) more (c .before .before .before .before .before .write-cell .ensures .next _ (c .before .past .given .1)),
+    let l = c .before .before .before in
+    let a = l .before .before .before .args in (
+      ⊎-elim
+          (λ w.
+          let more = cell-text-more (a .cells .now) (a .columns) (a .r) (l .loop .c) (w .2 .result) (w .2 .ensures) (omega arith) (omega arith) in
+          going-as (w .9) (w .10) refl (going-part _ (l .loop .inv .0) more (w .3 .ensures .next _ (w .7 .given .1))))
+          (λ w.
+          let off = cell-text-off (a .cells .now) (a .columns) (a .r) (l .loop .c) (w .0 .left) (omega arith) (omega arith) in
+          going-as (w .1) (w .2) (sym off) (l .loop .inv .0))
+          (c .if1 .came),
       omega arith,
     )
 
@@ -91,11 +106,11 @@ write-row-spec =
     μ-loop
     mul-start
     loop-holds
-    add-from-code
-    shared-slice-read-from-code
-    from-code-requires
+    add-code
+    shared-slice-read-code
     cast-write-cell
     cast-write-cell-2
+    from-code-requires
     write-cell-requires
     enum-known-past
     enum-told
