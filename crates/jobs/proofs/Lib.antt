@@ -1,7 +1,9 @@
 pub mod Accepted
+pub mod Again
 pub mod Due
 pub mod Refusals
-pub mod Table
+pub mod Entries
+pub mod Filled
 pub mod Turns
 pub mod Walks
 pub mod Whole

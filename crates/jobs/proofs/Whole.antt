@@ -38,7 +38,7 @@ use Rattle.jobs.specs.Steps.{
 use Rattle.jobs.proofs.Accepted.{read-end}
 use Rattle.jobs.proofs.Due.{unless-some}
 use Rattle.jobs.proofs.Refusals.{accepted-done}
-use Rattle.jobs.proofs.Table.{stored-held, zeros-held, padded-take}
+use Rattle.jobs.proofs.Entries.{stored-held, zeros-held, padded-take}
 
 -- an accepted job is a text that was read and passes ground 11
 accepted-is : (s : List ℕ) → accepted s ≡ sizeTested (readText s)

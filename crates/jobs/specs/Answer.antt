@@ -10,7 +10,11 @@ use Rattle.diagram.specs.declared.Node.{Node}
 use Rattle.diagram.specs.Diagram.{Diagram}
 use Rattle.jobs.specs.declared.Job.{Job}
 use Rattle.jobs.specs.declared.JobRead.{JobRead}
+use Rattle.jobs.specs.declared.Fields.{Fields}
+use Rattle.jobs.specs.declared.TextRead.{TextRead}
+use Rattle.jobs.specs.declared.TableRead.{TableRead}
 use Rattle.jobs.specs.declared.Walked.{Walked}
+use Rattle.jobs.specs.Job.{table}
 
 -- the record of a diagram: V, the label of terminal 1, N, K, and the ids that the outputs name, zeros past them
 unfoldable pub jobOf : Diagram → Job
@@ -37,6 +41,17 @@ pub record Holds (nodes : List Node) (xs ls hs ts : List ℕ) : Type 0 where
   pub lows : ls ≡ map (λ n. n .l) nodes
   pub highs : hs ≡ map (λ n. n .h) nodes
   pub labels : ts ≡ map (λ n. n .t) nodes
+
+-- the entries of a table by field
+unfoldable pub fieldsOf : List Node → Fields
+fieldsOf nodes = record { xs = map (λ n. n .x) nodes; ls = map (λ n. n .l) nodes; hs = map (λ n. n .h) nodes; ts = map (λ n. n .t) nodes }
+
+-- the answer with the entries by field, and with the node table
+unfoldable pub textRead : Outcome Diagram → TextRead
+textRead o = record { read = jobRead o; fields = fieldsOf (table o) }
+
+unfoldable pub tableRead : Outcome Diagram → TableRead
+tableRead o = record { read = jobRead o; nodes = table o }
 
 -- walk's answer
 unfoldable pub walked : Outcome ℕ → Walked

@@ -1,10 +1,13 @@
 // The job reader, and the call walk.
 pub mod lines; // lines.rt: each kind of line
 pub mod reading; // reading.rt: the lines in turn
+pub mod table; // table.rt: the node table, lent and filled
 pub mod walking; // walking.rt: the call walk
 
+use common::MAX_NODES;
 use common::MAX_OUTPUTS;
 use common::Refusal;
+use diagram::Node;
 
 // Document 01, "Job text": what a job says beside its node table: V, the label of terminal 1, N, K, and the ids that the outputs
 // name, zeros past them.
@@ -20,6 +23,26 @@ pub struct Job {
 pub struct JobRead {
     pub refusal: Refusal,
     pub job: Job,
+}
+
+// The entries of a node table by field: X, L, H and T, each in an array of its own.
+pub struct Fields {
+    pub xs: [u16; MAX_NODES],
+    pub ls: [u16; MAX_NODES],
+    pub hs: [u16; MAX_NODES],
+    pub ts: [u16; MAX_NODES],
+}
+
+// What all lines say: the reader's answer, and the entries of the node table.
+pub struct TextRead {
+    pub read: JobRead,
+    pub fields: Fields,
+}
+
+// The reader's answer, and the node table that it filled.
+pub struct TableRead {
+    pub read: JobRead,
+    pub nodes: [Node; MAX_NODES],
 }
 
 // Walk's answer: a refusal, or number 0 and the diagram's value.

@@ -1,9 +1,11 @@
 // Document 01, "Job text": the lines of a job in turn. "Text is read line by line; the first faulty line decides".
+use crate::Fields;
 use crate::Job;
 use crate::JobRead;
 use crate::NodesRead;
 use crate::Opening;
 use crate::OutsRead;
+use crate::TextRead;
 use crate::lines;
 use common::MAX_NODES;
 use common::MAX_OUTPUTS;
@@ -16,8 +18,8 @@ ghost use lib.ListN.{drop};
 ghost use Rattle.common.specs.Limits.{maxNodes, maxOutputs};
 ghost use Rattle.common.specs.Lists.{zeros};
 ghost use Rattle.figures.specs.Line.{linesOf};
-ghost use Rattle.jobs.specs.Answer.{noJob, jobRead, Holds};
-ghost use Rattle.jobs.specs.Job.{accepted, table};
+ghost use Rattle.jobs.specs.Answer.{noJob, jobRead, textRead};
+ghost use Rattle.jobs.specs.Job.{accepted};
 ghost use Rattle.jobs.specs.Reading.{readEnd};
 ghost use Rattle.jobs.specs.Steps.{OpeningStep, NodesStep, OutsStep, Listed, sizeTested, outlined, endLine, LinesRead};
 
@@ -223,22 +225,21 @@ pub fn read_lines(
     finish(text, ts, o, outs)
 }
 
-// Document 01, "Job text": reads a job. "entries without a line are zeros, and after a refusal it holds zeros only."
-pub fn read_job(
-    text: &[u8],
-    xs: &mut [u16; MAX_NODES],
-    ls: &mut [u16; MAX_NODES],
-    hs: &mut [u16; MAX_NODES],
-    ts: &mut [u16; MAX_NODES],
-) -> JobRead
-    ensures { λ r.
-        ⌜ (r ≡ jobRead (accepted (now (text .entry))))
-        × Holds (table (accepted (now (text .entry)))) (now (xs .exit)) (now (ls .exit)) (now (hs .exit)) (now (ts .exit)) ⌝ }
+// All lines in turn, and what they say by value: "entries without a line are zeros, and after a refusal it holds zeros only."
+pub fn read_text(text: &[u8]) -> TextRead
+    ensures { λ r. ⌜ r ≡ textRead (accepted (now (text .entry))) ⌝ }
 {
-    let r = read_lines(text, xs, ls, hs, ts);
-    let refusal = r.refusal;
-    if refusal.number != 0 {
-        clear_table(xs, ls, hs, ts);
+    let mut xs = [0u16; MAX_NODES];
+    let mut ls = [0u16; MAX_NODES];
+    let mut hs = [0u16; MAX_NODES];
+    let mut ts = [0u16; MAX_NODES];
+    let read = read_lines(text, &mut xs, &mut ls, &mut hs, &mut ts);
+    let refused = read.refusal;
+    if refused.number != 0 {
+        clear_table(&mut xs, &mut ls, &mut hs, &mut ts);
     }
-    r
+    TextRead {
+        read,
+        fields: Fields { xs, ls, hs, ts },
+    }
 }

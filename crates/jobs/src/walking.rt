@@ -1,8 +1,7 @@
 // Document 01, "The services": "walk: job text, setting and output number in; the diagram's value, 0 or 1, out."
 use crate::Walked;
-use crate::reading;
+use crate::table;
 use cells::checks;
-use common::MAX_NODES;
 use common::Refusal;
 use diagram::walking;
 ghost use mathlib.Core.Path.{_≡_};
@@ -26,11 +25,8 @@ fn no_walk() -> Walked
 pub fn walk(text: &[u8], setting: &[u8], output: u32) -> Walked
     ensures { λ r. ⌜ r ≡ walked (walk (now (text .entry)) (now (setting .entry)) output) ⌝ }
 {
-    let mut xs = [0u16; MAX_NODES];
-    let mut ls = [0u16; MAX_NODES];
-    let mut hs = [0u16; MAX_NODES];
-    let mut ts = [0u16; MAX_NODES];
-    let read = reading::read_job(text, &mut xs, &mut ls, &mut hs, &mut ts);
+    let table = table::read_table(text);
+    let read = table.read;
     let refusal = read.refusal;
     if refusal.number != 0 {
         return Walked { refusal, value: 0 };
@@ -42,6 +38,11 @@ pub fn walk(text: &[u8], setting: &[u8], output: u32) -> Walked
     if output >= job.outputs as u32 {
         return no_walk();
     }
+    let nodes = table.nodes;
+    let fields = table::fields_of(nodes);
+    let xs = fields.xs;
+    let ls = fields.ls;
+    let hs = fields.hs;
     let id = job.outs[output as usize];
     let n = job.nodes as usize;
     let value = walking::walk_value(&xs, &ls, &hs, job.switches, n, setting, id);

@@ -23,7 +23,7 @@ use Rattle.jobs.specs.declared.JobRead.{JobRead}
 use Rattle.jobs.specs.Job.{accepted, table}
 use Rattle.jobs.specs.Answer.{jobOf, jobRead, Holds}
 use Rattle.jobs.proofs.Accepted.{accepted-job}
-use Rattle.jobs.proofs.Table.{job-stored}
+use Rattle.jobs.proofs.Entries.{job-stored}
 use Rattle.jobs.proofs.Whole.{read-done}
 use Rattle.jobs.proofs.Walks.{read-is, nodes-few, outs-few}
 use Rattle.placement.specs.declared.Mapped.{Mapped}

@@ -2,13 +2,13 @@
 use crate::Mapped;
 use crate::place;
 use cells::Crossbar;
-use common::MAX_NODES;
 use common::MAX_OUTPUTS;
 use common::Refusal;
 use common::clear;
 use diagram::counts::column_count;
 use diagram::counts::row_count;
-use jobs::reading::read_job;
+use jobs::table::fields_of;
+use jobs::table::read_table;
 ghost use mathlib.Core.Path.{_≡_};
 ghost use Rattle.common.specs.Outcome.{refused};
 ghost use Rattle.placement.specs.Answer.{mapped, MapAnswers};
@@ -34,15 +34,18 @@ pub fn map(text: &[u8], cells: &mut [u8]) -> Mapped
     ensures { λ r. ⌜ MapAnswers (now (text .entry)) (now (cells .entry)) (now (cells .exit)) r ⌝ }
 {
     clear(cells);
-    let mut xs = [0u16; MAX_NODES];
-    let mut ls = [0u16; MAX_NODES];
-    let mut hs = [0u16; MAX_NODES];
-    let mut ts = [0u16; MAX_NODES];
-    let read = read_job(text, &mut xs, &mut ls, &mut hs, &mut ts);
+    let table = read_table(text);
+    let read = table.read;
     let refusal = read.refusal;
     if refusal.number != 0 {
         return refuse(refusal);
     }
+    let nodes = table.nodes;
+    let fields = fields_of(nodes);
+    let xs = fields.xs;
+    let ls = fields.ls;
+    let hs = fields.hs;
+    let ts = fields.ts;
     let job = read.job;
     let outs = job.outs;
     let n = job.nodes as usize;

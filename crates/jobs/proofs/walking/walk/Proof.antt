@@ -3,17 +3,17 @@ use mathlib.Core.Path.{refl, _∙_}
 use native.Mathlib.Omega.{arith}
 use Rattle.common.specs.Limits.{maxOutputs}
 use Rattle.cells.proofs.Every.{held, broken}
+use Rattle.jobs.proofs.Entries.{table-answer, table-held}
 use Rattle.jobs.proofs.Walks.{walk-refused, nodes-few, outs-few, walk-unset, walk-past, walk-found}
 use borrow.Author.Needs.{needs}
 use Rattle.jobs.proofs.walking.walk.Statement.{statement}
 use Rattle.jobs.proofs.walking.walk.Tie as tie
 
-read-job-requires : tie.Need-read-job-requires
-read-job-requires c κs = search needs
+read-table-requires : tie.Need-read-table-requires
+read-table-requires c κs = search needs
 
 returns : tie.Need-returns
-returns c =
-    walk-refused _ _ _ _ (c .before .before .before .read-job .ensures .0) (c .if1 .taken)
+returns c = walk-refused _ _ _ _ (table-answer _ _ (c .before .before .before .before .read-table .ensures)) (c .if1 .taken)
 
 is-setting-requires : tie.Need-is-setting-requires
 is-setting-requires c κs = search needs
@@ -23,8 +23,8 @@ no-walk-requires c κs = search needs
 
 returns-2 : tie.Need-returns-2
 returns-2 c =
-    c .no-walk .ensures
-    ∙ walk-unset _ _ _ _ (c .before .before .before .before .before .before .before .read-job .ensures .0) (c .before .before .before .before .if1 .left) (broken (c .before .before .is-setting .ensures) (c .before .if2 .taken))
+    let read = table-answer _ _ (c .before .before .before .before .before .before .before .before .read-table .ensures) in
+    c .no-walk .ensures ∙ walk-unset _ _ _ _ read (c .before .before .before .before .if1 .left) (broken (c .before .before .is-setting .ensures) (c .before .if2 .taken))
 
 cast-if3 : tie.Need-cast-if3
 cast-if3 c = search needs
@@ -34,8 +34,12 @@ no-walk-requires-2 c κs = search needs
 
 returns-3 : tie.Need-returns-3
 returns-3 c =
-    c .no-walk2 .ensures
-    ∙ walk-past _ _ _ _ (c .before .before .before .before .before .before .before .before .read-job .ensures .0) (c .before .before .before .before .before .if1 .left) (held (c .before .before .before .is-setting .ensures) (c .before .before .if2 .left)) (c .before .if3 .taken)
+    let read = table-answer _ _ (c .before .before .before .before .before .before .before .before .before .read-table .ensures) in
+    let set = held (c .before .before .before .is-setting .ensures) (c .before .before .if2 .left) in
+    c .no-walk2 .ensures ∙ walk-past _ _ _ _ read (c .before .before .before .before .before .if1 .left) set (c .before .if3 .taken)
+
+fields-of-requires : tie.Need-fields-of-requires
+fields-of-requires c κs = search needs
 
 mul-id : tie.Need-mul-id
 mul-id c = search needs
@@ -43,29 +47,32 @@ mul-id c = search needs
 element-copy-out-id : tie.Need-element-copy-out-id
 unfolding maxOutputs
 element-copy-out-id c =
-    let few = outs-few _ _ (c .before .before .before .before .before .before .before .read-job .ensures .0) (c .before .before .before .before .if1 .left) in
-    omega (arith, few, c .if3 .left)
+    let read = table-answer _ _ (c .before .before .before .before .before .before .before .before .before .before .before .before .before .read-table .ensures) in
+    let few = outs-few _ _ read (c .before .before .before .before .before .before .before .before .before .if1 .left) in
+    omega (arith, few, c .before .before .before .before .before .if3 .left)
 
 cast-n : tie.Need-cast-n
 cast-n c = search needs
 
 walk-value-requires : tie.Need-walk-value-requires
 walk-value-requires c κs =
-    nodes-few _ _ (c .before .before .before .before .before .before .before .before .before .before .before .read-job .ensures .0) (c .before .before .before .before .before .before .before .before .if1 .left)
+    nodes-few _ _ (table-answer _ _ (c .before .before .before .before .before .before .before .before .before .before .before .before .before .before .before .before .before .read-table .ensures)) (c .before .before .before .before .before .before .before .before .before .before .before .before .before .if1 .left)
 
 returns-4 : tie.Need-returns-4
 returns-4 c =
-    walk-found _ _ _ _ (c .before .before .before .before .before .before .before .before .before .before .before .before .read-job .ensures .0) (c .before .before .before .before .before .before .before .before .before .if1 .left) (held (c .before .before .before .before .before .before .before .is-setting .ensures) (c .before .before .before .before .before .before .if2 .left)) _ _ _ _ _ _
-    (c .before .before .before .before .before .before .before .before .before .before .before .before .read-job .ensures .1)
+    let table = c .before .before .before .before .before .before .before .before .before .before .before .before .before .before .before .before .before .before .read-table .ensures in
+    let set = held (c .before .before .before .before .before .before .before .before .before .before .before .before .is-setting .ensures) (c .before .before .before .before .before .before .before .before .before .before .before .if2 .left) in
+    walk-found _ _ _ _ (table-answer _ _ table) (c .before .before .before .before .before .before .before .before .before .before .before .before .before .before .if1 .left) set _ _ _ _ _ _
+    (table-held _ _ table _ (c .before .before .before .before .before .before .before .before .fields-of .ensures))
     refl
-    (c .before .before .before .before .before .if3 .left)
+    (c .before .before .before .before .before .before .before .before .before .before .if3 .left)
     (c .walk-value .ensures)
 
 pub walk-spec : {M : Type 1} → statement M
 walk-spec =
     tie.close
     (tie.spec
-    read-job-requires
+    read-table-requires
     returns
     is-setting-requires
     no-walk-requires
@@ -73,6 +80,7 @@ walk-spec =
     cast-if3
     no-walk-requires-2
     returns-3
+    fields-of-requires
     mul-id
     element-copy-out-id
     cast-n

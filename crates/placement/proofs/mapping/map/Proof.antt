@@ -1,12 +1,9 @@
 -- `placement::mapping::map` meets its contract. Assumes nothing.
-use Prim.Native.Nat.{ℕ, _*_, _≤_, _<_}
-use mathlib.Core.Path.{_≡_, refl, sym, ap, _∙_}
+use mathlib.Core.Path.{_∙_}
 use native.Mathlib.Omega.{arith}
-use lib.ListN.{length}
 use borrow.Author.Needs.{needs}
 use Rattle.common.specs.Limits.{maxRows, maxColumns}
-use Rattle.placement.specs.Placement.{crossbar}
-use Rattle.cells.specs.Record.{size}
+use Rattle.jobs.proofs.Entries.{table-answer, table-held}
 use Rattle.placement.proofs.Maps.{map-refused, held-few, outs-long, held-facts, held-sizes, cells-few, cells-fit, map-short, map-placed}
 use Rattle.placement.proofs.mapping.map.Statement.{statement}
 use Rattle.placement.proofs.mapping.map.Tie as tie
@@ -14,8 +11,8 @@ use Rattle.placement.proofs.mapping.map.Tie as tie
 clear-requires : tie.Need-clear-requires
 clear-requires c κs = search needs
 
-read-job-requires : tie.Need-read-job-requires
-read-job-requires c κs = search needs
+read-table-requires : tie.Need-read-table-requires
+read-table-requires c κs = search needs
 
 refuse-requires : tie.Need-refuse-requires
 refuse-requires c κs = search needs
@@ -24,7 +21,11 @@ same-length : tie.Need-same-length
 same-length c = search needs
 
 returns : tie.Need-returns
-returns c = map-refused _ _ _ _ _ (c .before .before .before .before .read-job .ensures .0) (c .before .if1 .taken) (c .refuse .ensures) (c .before .before .before .before .before .before .before .before .before .before .before .clear .ensures)
+returns c =
+    map-refused _ _ _ _ _ (table-answer _ _ (c .before .before .before .before .before .read-table .ensures)) (c .before .if1 .taken) (c .refuse .ensures) (c .before .before .before .before .before .before .before .before .clear .ensures)
+
+fields-of-requires : tie.Need-fields-of-requires
+fields-of-requires c κs = search needs
 
 cast-n : tie.Need-cast-n
 cast-n c = search needs
@@ -33,50 +34,72 @@ cast-k : tie.Need-cast-k
 cast-k c = search needs
 
 row-count-requires : tie.Need-row-count-requires
-row-count-requires c κs = held-few _ _ (c .before .before .before .before .before .before .before .before .before .read-job .ensures .0) (c .before .before .before .before .before .before .if1 .left) _ _ _ _ (c .before .before .before .before .before .before .before .before .before .read-job .ensures .1)
+row-count-requires c κs =
+    let table = c .before .before .before .before .before .before .before .before .before .before .before .before .before .before .before .before .read-table .ensures in
+    let answer = table-answer _ _ table in
+    let read = c .before .before .before .before .before .before .before .before .before .before .before .before .if1 .left in
+    let holds = table-held _ _ table _ (c .before .before .before .before .before .before .before .before .before .before .fields-of .ensures) in
+    held-few _ _ answer read _ _ _ _ holds
 
 column-count-requires : tie.Need-column-count-requires
-column-count-requires c κs = held-few _ _ (c .before .before .before .before .before .before .before .before .before .before .before .read-job .ensures .0) (c .before .before .before .before .before .before .before .before .if1 .left) _ _ _ _ (c .before .before .before .before .before .before .before .before .before .before .before .read-job .ensures .1) .0
+column-count-requires c κs =
+    let table = c .before .before .before .before .before .before .before .before .before .before .before .before .before .before .before .before .before .before .read-table .ensures in
+    let answer = table-answer _ _ table in
+    let read = c .before .before .before .before .before .before .before .before .before .before .before .before .before .before .if1 .left in
+    let holds = table-held _ _ table _ (c .before .before .before .before .before .before .before .before .before .before .before .before .fields-of .ensures) in
+    held-few _ _ answer read _ _ _ _ holds .0
 
 mul-if2 : tie.Need-mul-if2
 unfolding maxRows maxColumns
 mul-if2 c =
-    let few = cells-few _ _ (c .before .before .before .before .before .before .before .before .before .before .before .before .read-job .ensures .0) (c .before .before .before .before .before .before .before .before .before .if1 .left) _ _ _ _ (c .before .before .before .before .before .before .before .before .before .before .before .before .read-job .ensures .1) _ _ (c .before .before .row-count .ensures _ _ _ _) (c .column-count .ensures _ _ _ _ _) in
+    let table = c .before .before .before .before .before .before .before .before .before .before .before .before .before .before .before .before .before .before .before .read-table .ensures in
+    let answer = table-answer _ _ table in
+    let read = c .before .before .before .before .before .before .before .before .before .before .before .before .before .before .before .if1 .left in
+    let holds = table-held _ _ table _ (c .before .before .before .before .before .before .before .before .before .before .before .before .before .fields-of .ensures) in
+    let few = cells-few _ _ answer read _ _ _ _ holds _ _ (c .before .before .row-count .ensures _ _ _ _) (c .column-count .ensures _ _ _ _ _) in
     record { fits = omega (arith, few) }
 
 refuse-requires-2 : tie.Need-refuse-requires-2
 refuse-requires-2 c κs = search needs
 
 same-length-2 : tie.Need-same-length-2
-same-length-2 c = c .before .before .before .before .before .before .before .before .before .before .before .before .before .before .before .before .before .before .before .before .before .clear .kept .0
+same-length-2 c = c .before .before .before .before .before .before .before .before .before .before .before .before .before .before .before .before .before .before .before .before .before .before .before .before .clear .kept .0
 
 returns-2 : tie.Need-returns-2
 returns-2 c =
-    map-short _ _ (c .before .before .before .before .before .before .before .before .before .before .before .before .before .before .read-job .ensures .0) (c .before .before .before .before .before .before .before .before .before .before .before .if1 .left) _ _ _ _ (c .before .before .before .before .before .before .before .before .before .before .before .before .before .before .read-job .ensures .1) _ _ _ _ _ (c .before .before .before .before .row-count .ensures _ _ _ _) (c .before .before .column-count .ensures _ _ _ _ _)
-    (rw (c .before .before .before .before .before .before .before .before .before .before .before .before .before .before .before .before .before .before .before .before .before .clear .kept .0) at (c .before .if2 .taken))
+    let table = c .before .before .before .before .before .before .before .before .before .before .before .before .before .before .before .before .before .before .before .before .before .read-table .ensures in
+    let answer = table-answer _ _ table in
+    let read = c .before .before .before .before .before .before .before .before .before .before .before .before .before .before .before .before .before .if1 .left in
+    let holds = table-held _ _ table _ (c .before .before .before .before .before .before .before .before .before .before .before .before .before .before .before .fields-of .ensures) in
+    map-short _ _ answer read _ _ _ _ holds _ _ _ _ _ (c .before .before .before .before .row-count .ensures _ _ _ _) (c .before .before .column-count .ensures _ _ _ _ _)
+    (rw (c .before .before .before .before .before .before .before .before .before .before .before .before .before .before .before .before .before .before .before .before .before .before .before .before .clear .kept .0) at (c .before .if2 .taken))
     (c .refuse2 .ensures)
-    (c .before .before .before .before .before .before .before .before .before .before .before .before .before .before .before .before .before .before .before .before .before .clear .ensures)
+    (c .before .before .before .before .before .before .before .before .before .before .before .before .before .before .before .before .before .before .before .before .before .before .before .before .clear .ensures)
 
 place-requires : tie.Need-place-requires
-place-requires c κs = (
-  outs-long _ _ (c .before .before .before .before .before .before .before .before .before .before .before .before .before .before .before .before .before .before .before .read-job .ensures .0) (c .before .before .before .before .before .before .before .before .before .before .before .before .before .before .before .before .if1 .left) _ _ _ _ (c .before .before .before .before .before .before .before .before .before .before .before .before .before .before .before .before .before .before .before .read-job .ensures .1),
-  (
-    held-facts _ _ (c .before .before .before .before .before .before .before .before .before .before .before .before .before .before .before .before .before .before .before .read-job .ensures .0) (c .before .before .before .before .before .before .before .before .before .before .before .before .before .before .before .before .if1 .left) _ _ _ _ (c .before .before .before .before .before .before .before .before .before .before .before .before .before .before .before .before .before .before .before .read-job .ensures .1),
-    (
-      held-sizes _ _ (c .before .before .before .before .before .before .before .before .before .before .before .before .before .before .before .before .before .before .before .read-job .ensures .0) (c .before .before .before .before .before .before .before .before .before .before .before .before .before .before .before .before .if1 .left) _ _ _ _ (c .before .before .before .before .before .before .before .before .before .before .before .before .before .before .before .before .before .before .before .read-job .ensures .1),
-      cells-fit _ _ (c .before .before .before .before .before .before .before .before .before .before .before .before .before .before .before .before .before .before .before .read-job .ensures .0) (c .before .before .before .before .before .before .before .before .before .before .before .before .before .before .before .before .if1 .left) _ _ _ _ (c .before .before .before .before .before .before .before .before .before .before .before .before .before .before .before .before .before .before .before .read-job .ensures .1) _ _ _ (c .before .before .before .before .before .before .before .before .before .row-count .ensures _ _ _ _) (c .before .before .before .before .before .before .before .column-count .ensures _ _ _ _ _) (c .before .before .before .before .before .before .if2 .left),
-    ),
-  ),
-)
+place-requires c κs =
+    let table = c .before .before .before .before .before .before .before .before .before .before .before .before .before .before .before .before .before .before .before .before .before .before .before .before .before .before .read-table .ensures in
+    let answer = table-answer _ _ table in
+    let read = c .before .before .before .before .before .before .before .before .before .before .before .before .before .before .before .before .before .before .before .before .before .before .if1 .left in
+    let holds = table-held _ _ table _ (c .before .before .before .before .before .before .before .before .before .before .before .before .before .before .before .before .before .before .before .before .fields-of .ensures) in
+    let fit =
+    cells-fit _ _ answer read _ _ _ _ holds _ _ _ (c .before .before .before .before .before .before .before .before .before .row-count .ensures _ _ _ _) (c .before .before .before .before .before .before .before .column-count .ensures _ _ _ _ _) (c .before .before .before .before .before .before .if2 .left) in
+    (outs-long _ _ answer read _ _ _ _ holds, (held-facts _ _ answer read _ _ _ _ holds, (held-sizes _ _ answer read _ _ _ _ holds, fit)))
 
 same-length-3 : tie.Need-same-length-3
-same-length-3 c = c .before .before .place .kept .1 .1 .1 .1 .1 .1 .1 .1 .1 .0 ∙ c .before .before .before .before .before .before .before .before .before .before .before .before .before .before .before .before .before .before .before .before .before .before .before .before .before .before .before .before .before .clear .kept .0
+same-length-3 c = c .before .before .place .kept .1 .1 .1 .1 .1 .1 .1 .1 .1 .0 ∙ c .before .before .before .before .before .before .before .before .before .before .before .before .before .before .before .before .before .before .before .before .before .before .before .before .before .before .before .before .before .before .before .before .clear .kept .0
 
 returns-3 : tie.Need-returns-3
 returns-3 c =
-    let cleared = c .before .before .before .before .before .before .before .before .before .before .before .before .before .before .before .before .before .before .before .before .before .before .before .before .before .before .before .before .before .clear .kept .0 in
-    map-placed _ _ (c .before .before .before .before .before .before .before .before .before .before .before .before .before .before .before .before .before .before .before .before .before .before .read-job .ensures .0) (c .before .before .before .before .before .before .before .before .before .before .before .before .before .before .before .before .before .before .before .if1 .left) _ _ _ _ (c .before .before .before .before .before .before .before .before .before .before .before .before .before .before .before .before .before .before .before .before .before .before .read-job .ensures .1) _ _ _
-    (rw cleared at (cells-fit _ _ (c .before .before .before .before .before .before .before .before .before .before .before .before .before .before .before .before .before .before .before .before .before .before .read-job .ensures .0) (c .before .before .before .before .before .before .before .before .before .before .before .before .before .before .before .before .before .before .before .if1 .left) _ _ _ _ (c .before .before .before .before .before .before .before .before .before .before .before .before .before .before .before .before .before .before .before .before .before .before .read-job .ensures .1) _ _ _ (c .before .before .before .before .before .before .before .before .before .before .before .before .row-count .ensures _ _ _ _) (c .before .before .before .before .before .before .before .before .before .before .column-count .ensures _ _ _ _ _) (c .before .before .before .before .before .before .before .before .before .if2 .left)))
+    let cleared = c .before .before .before .before .before .before .before .before .before .before .before .before .before .before .before .before .before .before .before .before .before .before .before .before .before .before .before .before .before .before .before .before .clear .kept .0 in
+    let table = c .before .before .before .before .before .before .before .before .before .before .before .before .before .before .before .before .before .before .before .before .before .before .before .before .before .before .before .before .before .read-table .ensures in
+    let answer = table-answer _ _ table in
+    let read = c .before .before .before .before .before .before .before .before .before .before .before .before .before .before .before .before .before .before .before .before .before .before .before .before .before .if1 .left in
+    let holds = table-held _ _ table _ (c .before .before .before .before .before .before .before .before .before .before .before .before .before .before .before .before .before .before .before .before .before .before .before .fields-of .ensures) in
+    let fit =
+    cells-fit _ _ answer read _ _ _ _ holds _ _ _ (c .before .before .before .before .before .before .before .before .before .before .before .before .row-count .ensures _ _ _ _) (c .before .before .before .before .before .before .before .before .before .before .column-count .ensures _ _ _ _ _) (c .before .before .before .before .before .before .before .before .before .if2 .left) in
+    map-placed _ _ answer read _ _ _ _ holds _ _ _
+    (rw cleared at fit)
     (rw (c .before .before .place .ensures .0))
     (c .before .before .place .ensures .1 ∙ rw cleared)
 
@@ -85,10 +108,11 @@ map-spec =
     tie.close
     (tie.spec
     clear-requires
-    read-job-requires
+    read-table-requires
     refuse-requires
     same-length
     returns
+    fields-of-requires
     cast-n
     cast-k
     row-count-requires

@@ -8,12 +8,15 @@ use lib.ListN.{length, getD, take, replicate, length-append, length-replicate, l
 use lib.Seq.{ext-getD, getD-take, length-take-le}
 use Rattle.common.specs.Limits.{maxNodes}
 use Rattle.common.specs.Lists.{zeros, padded, tab}
-use Rattle.common.specs.Outcome.{done, refused, valueOf}
+use Rattle.common.specs.Outcome.{Outcome, done, refused, valueOf}
 use Rattle.common.proofs.Lists.{below-or-not, length-tab, getD-tab}
 use Rattle.diagram.specs.declared.Node.{Node}
 use Rattle.diagram.specs.Diagram.{Diagram, no-node}
 use Rattle.diagram.specs.Stored.{stored, storedNode}
-use Rattle.jobs.specs.Answer.{Holds}
+use Rattle.jobs.specs.declared.JobRead.{JobRead}
+use Rattle.jobs.specs.declared.Fields.{Fields}
+use Rattle.jobs.specs.declared.TableRead.{TableRead}
+use Rattle.jobs.specs.Answer.{jobRead, Holds, fieldsOf, textRead, tableRead}
 use Rattle.jobs.specs.Job.{accepted, table}
 use Rattle.jobs.specs.Steps.{Clear, AllClear}
 
@@ -146,3 +149,33 @@ padded-take p k outs few entries past =
     let end : length (take k outs) ≤ i = omega arith in
     rw (List·getD-eq-default (take k outs) 0 end) (sym (past i over)))
     (below-or-not i k)))
+
+-- what all lines say, from the reader's answer and the arrays that hold the table
+pub text-held :
+    (o : Outcome Diagram) (xs ls hs ts : List ℕ) (r : JobRead)
+    → r ≡ jobRead o
+    → Holds (table o) xs ls hs ts
+    → record { read = r; fields = record { xs = xs; ls = ls; hs = hs; ts = ts } } ≡ textRead o
+unfolding textRead fieldsOf
+text-held o xs ls hs ts r e h = cc
+
+-- the fields of a table hold it
+fields-hold : (ns : List Node) (f : Fields) → f ≡ fieldsOf ns → Holds ns (f .xs) (f .ls) (f .hs) (f .ts)
+unfolding fieldsOf
+fields-hold ns f e =
+    record {
+      switches = ap (λ (g : Fields). g .xs) e;
+      lows = ap (λ (g : Fields). g .ls) e;
+      highs = ap (λ (g : Fields). g .hs) e;
+      labels = ap (λ (g : Fields). g .ts) e;
+    }
+
+-- the reader's answer and the fields of the table, from what was read by value
+module _ (o : Outcome Diagram) (t : TableRead) (read : t ≡ tableRead o) where
+  pub table-answer : t .read ≡ jobRead o
+  unfolding tableRead
+  table-answer = ap (λ (q : TableRead). q .read) read
+
+  pub table-held : (f : Fields) → f ≡ fieldsOf (t .nodes) → Holds (table o) (f .xs) (f .ls) (f .hs) (f .ts)
+  unfolding tableRead
+  table-held f e = fields-hold (table o) f (e ∙ ap (λ (q : TableRead). fieldsOf (q .nodes)) read)

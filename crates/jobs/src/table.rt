@@ -1,0 +1,99 @@
+// Document 01, "Job text": the node table. "The reader fills a lent table of nodes, one entry a line." The lines are read first, into an
+// array for each field, since a line is tested against the entries before it. Once it is known whether the job is refused, each entry is
+// written once.
+use crate::Fields;
+use crate::JobRead;
+use crate::TableRead;
+use crate::TextRead;
+use crate::reading::read_text;
+use common::MAX_NODES;
+use diagram::Node;
+ghost use mathlib.Core.Path.{_≡_};
+ghost use Prim.Native.Nat.{_<_};
+ghost use lib.ListN.{length, set};
+ghost use Rattle.common.specs.Limits.{maxNodes};
+ghost use Rattle.diagram.specs.Stored.{storedNode};
+ghost use Rattle.jobs.specs.Answer.{jobRead, fieldsOf, tableRead};
+ghost use Rattle.jobs.specs.Job.{accepted, table};
+
+// The entry of the k-th node's line, zeros where there is none.
+fn node_at(lines: TextRead, k: usize) -> Node
+    requires { ⌜ k < maxNodes ⌝ }
+    ensures { λ r. ⌜ r ≡ storedNode (lines .fields .xs) (lines .fields .ls) (lines .fields .hs) (lines .fields .ts) k ⌝ }
+{
+    let f = lines.fields;
+    Node {
+        x: f.xs[k],
+        l: f.ls[k],
+        h: f.hs[k],
+        t: f.ts[k],
+    }
+}
+
+// The reader's answer.
+fn answer_of(lines: TextRead) -> JobRead
+    ensures { λ r. ⌜ r ≡ lines .read ⌝ }
+{
+    lines.read
+}
+
+// Writes one entry of a lent table; nothing else writes to it.
+fn put(nodes: &mut [Node], k: usize, node: Node)
+    requires { ⌜ k < length (now nodes) ⌝ }
+    ensures { λ r. ⌜ now (nodes .exit) ≡ set (now (nodes .entry)) k node ⌝ }
+{
+    nodes[k] = node;
+}
+
+// The reader: a job's text in, its record out, and its nodes in the lent table. "entries without a line are zeros, and after a refusal it holds zeros only."
+fn read_job(text: &[u8], nodes: &mut [Node]) -> JobRead
+    requires { ⌜ length (now nodes) ≡ maxNodes ⌝ }
+    ensures { λ r.
+        ⌜ (r ≡ jobRead (accepted (now (text .entry))))
+        × (now (nodes .exit) ≡ table (accepted (now (text .entry)))) ⌝ }
+{
+    let lines = read_text(text);
+    let mut k = 0;
+    while k < MAX_NODES {
+        let node = node_at(lines, k);
+        put(nodes, k, node);
+        k += 1;
+    }
+    answer_of(lines)
+}
+
+// Lends the reader a table, and hands it on by value, so that its callers hold no reference to a node.
+pub fn read_table(text: &[u8]) -> TableRead
+    ensures { λ r. ⌜ r ≡ tableRead (accepted (now (text .entry))) ⌝ }
+{
+    let mut nodes = [Node {
+        x: 0,
+        l: 0,
+        h: 0,
+        t: 0,
+    }; MAX_NODES];
+    let read = read_job(text, &mut nodes);
+    TableRead { read, nodes }
+}
+
+// The entries of a node table by field, for the walk and the placement, which look up one field at a time.
+pub fn fields_of(nodes: [Node; MAX_NODES]) -> Fields
+    ensures { λ r. ⌜ r ≡ fieldsOf nodes ⌝ }
+{
+    let mut f = Fields {
+        xs: [0; MAX_NODES],
+        ls: [0; MAX_NODES],
+        hs: [0; MAX_NODES],
+        ts: [0; MAX_NODES],
+    };
+    let mut k = 0;
+    while k < MAX_NODES {
+        let node = nodes[k];
+        f.xs[k] = node.x;
+        f.ls[k] = node.l;
+        f.hs[k] = node.h;
+        f.ts[k] = node.t;
+        k += 1;
+    }
+    f
+}
