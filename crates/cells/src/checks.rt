@@ -14,7 +14,7 @@ ghost use Rattle.cells.specs.Record.{inRange, sound};
 ghost use Rattle.cells.specs.Setting.{isSetting};
 
 // Whether every byte from a place on is 0.
-pub fn all_zero_from(s: &[u8], from: usize) -> bool
+fn all_zero_from(s: &[u8], from: usize) -> bool
     ensures { λ r. ⌜ r ≡ all-of (λ b. eqb b 0) (drop from (now (s .entry))) ⌝ }
 {
     let mut i = from;
@@ -28,7 +28,7 @@ pub fn all_zero_from(s: &[u8], from: usize) -> bool
 }
 
 // Whether none of the first n bytes is above a number.
-pub fn at_most(s: &[u8], n: usize, most: usize) -> bool
+fn at_most(s: &[u8], n: usize, most: usize) -> bool
     requires { ⌜ n ≤ length (now s) ⌝ }
     ensures { λ r. ⌜ r ≡ all-of (λ k. leb k most) (take n (now (s .entry))) ⌝ }
 {
@@ -72,7 +72,7 @@ fn outs_zero_from(outs: [u16; MAX_OUTPUTS], from: usize) -> bool
 }
 
 // Document 01, "Listing": the sizes of a crossbar in range.
-pub fn in_range(rows: u16, columns: u16, switches: u16, outputs: u16) -> bool
+fn in_range(rows: u16, columns: u16, switches: u16, outputs: u16) -> bool
     ensures { λ r. ⌜ r ≡ inRange rows columns switches outputs ⌝ }
 {
     if rows < 1 {

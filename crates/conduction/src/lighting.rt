@@ -41,7 +41,7 @@ fn show(stamps: &[u16], k: usize, wires: &mut [u8])
 
 // The rounds of m rows and n columns, and their lit wires, without light's checks. The answer is the count of rounds, or m + n where no
 // number of rounds below it is at rest; then nothing is written.
-pub fn light_wires(cells: &[u8], setting: &[u8], m: usize, n: usize, wires: &mut [u8]) -> u16
+fn light_wires(cells: &[u8], setting: &[u8], m: usize, n: usize, wires: &mut [u8]) -> u16
     requires { ⌜ (0 < m) × (m + n ≤ maxRows + maxColumns) × (m * n ≤ length (now cells)) × (m + n ≤ length (now wires)) ⌝ }
     ensures { λ t. ⌜ Shown m n (joins (now (cells .entry)) n (now (setting .entry))) t (now (wires .entry)) (now (wires .exit)) ⌝ }
 {

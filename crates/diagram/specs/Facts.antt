@@ -7,7 +7,7 @@ use mathlib.Core.Bool.{Bool, false}
 use mathlib.Core.List.{List}
 use lib.ListN.{length, getD}
 use Rattle.common.specs.Limits.{maxRows, maxColumns, maxSwitches, maxNodes, maxOutputs}
-use Rattle.diagram.specs.Diagram.{Diagram, idCount, switchAt, lowAt, highAt, labelAt}
+use Rattle.diagram.specs.Diagram.{Diagram, labelH, labelV, labelB, idCount, switchAt, lowAt, highAt, labelAt}
 use Rattle.diagram.specs.Faults.{alike}
 use Rattle.diagram.specs.Wires.{rowCount, columnCount}
 
@@ -19,14 +19,14 @@ pub record NodeFacts (d : Diagram) (i : ℕ) : Type 0 where
   pub low-later : switchAt d i < switchAt d (lowAt d i)
   pub high-later : switchAt d i < switchAt d (highAt d i)
   pub children-differ : lowAt d i ≡ highAt d i → ⊥
-  pub label-least : 1 ≤ labelAt d i
-  pub label-most : labelAt d i ≤ 3
+  pub label-least : labelH ≤ labelAt d i
+  pub label-most : labelAt d i ≤ labelB
   pub low-unlike : alike (labelAt d i) (labelAt d (lowAt d i)) ≡ false
   pub high-unlike : alike (labelAt d i) (labelAt d (highAt d i)) ≡ false
 
 -- of a diagram
 pub record Facts (d : Diagram) : Type 0 where
-  pub one-label : (d .one ≡ 1) ⊎ (d .one ≡ 3)
+  pub one-label : (d .one ≡ labelH) ⊎ (d .one ≡ labelB)
   pub node : (i : ℕ) → 2 ≤ i → i < idCount d → NodeFacts d i
   pub distinct :
       (i k : ℕ)
@@ -39,7 +39,7 @@ pub record Facts (d : Diagram) : Type 0 where
       → highAt d i ≡ highAt d k
       → i ≡ k
   pub outs-named : (j : ℕ) → j < length (d .outs) → getD (d .outs) j 0 < idCount d
-  pub outs-in-rows : (j : ℕ) → j < length (d .outs) → labelAt d (getD (d .outs) j 0) ≡ 2 → ⊥
+  pub outs-in-rows : (j : ℕ) → j < length (d .outs) → labelAt d (getD (d .outs) j 0) ≡ labelV → ⊥
 
 -- of the sizes: grounds 2 and 11
 pub record Sizes (d : Diagram) : Type 0 where

@@ -9,7 +9,7 @@ use Rattle.common.specs.Limits.{maxSwitches, maxNodes, maxOutputs}
 use Rattle.common.specs.Lists.{any-of}
 use Rattle.common.specs.Outcome.{_when_, lowest}
 use Rattle.diagram.specs.declared.Node.{Node}
-use Rattle.diagram.specs.Diagram.{Diagram, idCount, switchAt, labelAt}
+use Rattle.diagram.specs.Diagram.{Diagram, labelH, labelV, idCount, switchAt, labelAt}
 
 -- 2: "A figure of the first line is outside its range."
 unfoldable pub headFault : ℕ → ℕ → ℕ → ℕ
@@ -17,7 +17,7 @@ headFault v n k = lowest ((2 when not (leb v maxSwitches && leb n maxNodes && le
 
 -- 9: "Terminal 1 .. is labelled `v`"
 unfoldable pub oneFault : ℕ → ℕ
-oneFault t = lowest ((9 when eqb t 2) ∷ [])
+oneFault t = lowest ((9 when eqb t labelV) ∷ [])
 
 -- "A child other than 0 and 1 has a switch not above X."
 unfoldable pub unordered : Diagram → ℕ → ℕ → Bool
@@ -29,7 +29,7 @@ sameTest n m = eqb (n .x) (m .x) && eqb (n .l) (m .l) && eqb (n .h) (m .h)
 
 -- "a node and a child of it other than 0 are both `h` or both `v`"; terminal 0 has no label, so it is like no node
 unfoldable pub alike : ℕ → ℕ → Bool
-alike t u = eqb t u && (eqb t 1 || eqb t 2)
+alike t u = eqb t u && (eqb t labelH || eqb t labelV)
 
 -- 3 to 9 on `(node I X (L H) T)`, the diagram being what the lines before it say
 unfoldable pub nodeFault : Diagram → ℕ → Node → ℕ
@@ -50,5 +50,5 @@ outFault d j i =
     lowest
     ((3 when not (eqb j (length (d .outs))))
     ∷ (5 when not (ltb i (idCount d)))
-    ∷ (9 when eqb (labelAt d i) 2)
+    ∷ (9 when eqb (labelAt d i) labelV)
     ∷ [])

@@ -6,18 +6,18 @@ use lib.ListN.{length}
 use lib.Dec.{eqb, ltb}
 use Rattle.common.specs.Limits.{maxRows, maxColumns}
 use Rattle.common.specs.Lists.{bit, any-of}
-use Rattle.diagram.specs.Diagram.{Diagram, idCount, labelAt}
+use Rattle.diagram.specs.Diagram.{Diagram, labelH, labelV, labelB, idCount, labelAt}
 
--- whether an id has a wire of one kind, 1 for rows and 2 for columns: its label is that or both. "Labels T: `h` a row, `v` a column, `b`
--- both", which are 1, 2 and 3. "Terminal 0 has no wire": it has no label.
+-- whether an id has a wire of one kind, that of `h` for rows and that of `v` for columns: its label is that or both. "Labels T: `h` a row,
+-- `v` a column, `b` both." "Terminal 0 has no wire": it has no label.
 abbrev pub hasWire : ℕ → Diagram → ℕ → Bool
-hasWire kind d i = eqb (labelAt d i) kind || eqb (labelAt d i) 3
+hasWire kind d i = eqb (labelAt d i) kind || eqb (labelAt d i) labelB
 
 unfoldable pub hasRow : Diagram → ℕ → Bool
-hasRow d i = hasWire 1 d i
+hasRow d i = hasWire labelH d i
 
 unfoldable pub hasColumn : Diagram → ℕ → Bool
-hasColumn d i = hasWire 2 d i
+hasColumn d i = hasWire labelV d i
 
 -- the ids below n of which has holds, in rising order
 unfoldable pub owners : (ℕ → Bool) → ℕ → List ℕ

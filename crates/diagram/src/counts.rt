@@ -30,7 +30,7 @@ fn wire_of(ts: &[u16; MAX_NODES], one: u16, n: usize, kind: u16, id: usize) -> u
 }
 
 // How many ids below end have a wire of the kind, which is the number of end's own wire if it has one.
-pub fn wires_below(ts: &[u16; MAX_NODES], one: u16, n: usize, kind: u16, end: usize) -> usize
+fn wires_below(ts: &[u16; MAX_NODES], one: u16, n: usize, kind: u16, end: usize) -> usize
     requires { ⌜ n ≤ maxNodes ⌝ }
     ensures { λ r.
         ⌜ ((v : ℕ) (xs ls hs outs : List ℕ)
@@ -46,7 +46,7 @@ pub fn wires_below(ts: &[u16; MAX_NODES], one: u16, n: usize, kind: u16, end: us
 }
 
 // The rows that belong to terminal 1 and to nodes.
-pub fn owned_rows(ts: &[u16; MAX_NODES], one: u16, n: usize) -> usize
+fn owned_rows(ts: &[u16; MAX_NODES], one: u16, n: usize) -> usize
     requires { ⌜ n ≤ maxNodes ⌝ }
     ensures { λ r. ⌜ ((v : ℕ) (xs ls hs outs : List ℕ) → r ≡ length (rowOwners (stored v one n xs ls hs (now (ts .entry)) outs))) ⌝ }
 {

@@ -49,7 +49,7 @@ fn step(
 
 // The terminal at which the walk from an id ends. A child that is not below the id ends it too, so the walk ends in any arrays; where
 // children have lower ids that is a terminal's own step.
-pub fn walk_end(
+fn walk_end(
     xs: &[u16; MAX_NODES],
     ls: &[u16; MAX_NODES],
     hs: &[u16; MAX_NODES],
@@ -73,10 +73,10 @@ pub fn walk_end(
 }
 
 // "the diagram's value, 0 or 1": 1 when the walk ends at terminal 1.
-pub fn walk_value(
-    xs: &[u16; MAX_NODES],
-    ls: &[u16; MAX_NODES],
-    hs: &[u16; MAX_NODES],
+pub fn walk_value<'a>(
+    xs: &'a [u16; MAX_NODES],
+    ls: &'a [u16; MAX_NODES],
+    hs: &'a [u16; MAX_NODES],
     v: u16,
     n: usize,
     setting: &[u8],

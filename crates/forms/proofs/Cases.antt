@@ -28,7 +28,8 @@ use Rattle.forms.specs.declared.Form.the-variants as form
 use Rattle.forms.specs.Template.{Template, word, figure, label, values}
 use Rattle.forms.specs.Forms.{jobForm, oneForm, nodeForm, outForm, endForm, crossbarForm, onForm, yesForm, noForm}
 use Rattle.forms.specs.Pattern.{isItem, valuesBy, refusedValues, handed, answerOf}
-use Rattle.forms.specs.Form.{placed, switchOf, cappedCell, capped, jobOf, oneOf, nodeOf, outOf, endOf, sizeOf, onOf, yesOf, noOf, notDue, either, cellLine, formOf, kindOf, valuesIn, ofKind, asJob, asOne, asNode, asOut, asEnd, asSize, asCell}
+use Rattle.forms.specs.Form.{placed, switchOf, jobOf, oneOf, nodeOf, outOf, endOf, sizeOf, onOf, yesOf, noOf, notDue, either, cellLine, formOf}
+use Rattle.forms.proofs.Sorts.{cappedCell, capped, kindOf, valuesIn, ofKind, asJob, asOne, asNode, asOut, asEnd, asSize, asCell}
 use Rattle.forms.proofs.Form.{the-type}
 use Rattle.forms.proofs.Template.{Fits, word-values, written-values}
 use Rattle.forms.proofs.Pattern.{patternOf, plain, plainByte, values-by}

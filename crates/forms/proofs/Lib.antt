@@ -1,3 +1,4 @@
+pub mod Sorts
 pub mod Cases
 pub mod Pattern
 pub mod Reading

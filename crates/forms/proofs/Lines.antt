@@ -11,7 +11,8 @@ use Rattle.figures.proofs.Ends.{line-ended, line-left}
 use Rattle.forms.specs.declared.Form.{Form}
 use Rattle.forms.specs.Template.{Template, values}
 use Rattle.forms.specs.Forms.{jobForm, oneForm, nodeForm, outForm, endForm, crossbarForm}
-use Rattle.forms.specs.Form.{formOf, formIn, notDue, asJob, asOne, asNode, asOut, asEnd, asSize, ofKind, kindOf}
+use Rattle.forms.specs.Form.{formOf, formIn, notDue}
+use Rattle.forms.proofs.Sorts.{asJob, asOne, asNode, asOut, asEnd, asSize, ofKind, kindOf}
 use Rattle.forms.specs.Due.{Taken, due}
 use Rattle.forms.proofs.Template.{due-is}
 use Rattle.forms.proofs.Cases.{as-job, as-one, as-node, as-out, as-end, as-size}

@@ -257,7 +257,7 @@ fn size_of(size: Values) -> Form
 }
 
 // The form of one line, given without its line feed. A line that is no form is refused with ground 1 and its number.
-pub fn read_form(line: &[u8], number: u32) -> Form
+fn read_form(line: &[u8], number: u32) -> Form
     ensures { λ r. ⌜ r ≡ formOf (now (line .entry)) number ⌝ }
 {
     let job = read_values(line, b"(job # # #)");

@@ -23,7 +23,8 @@ use Rattle.forms.specs.declared.JobForm.{JobForm}
 use Rattle.forms.specs.declared.NodeForm.{NodeForm}
 use Rattle.forms.specs.declared.OutForm.{OutForm}
 use Rattle.forms.specs.Forms.{jobForm, oneForm, nodeForm, outForm, endForm}
-use Rattle.forms.specs.Form.{formIn, asJob, asOne, asNode, asOut, asEnd, ofKind, kindOf, valuesIn}
+use Rattle.forms.specs.Form.{formIn}
+use Rattle.forms.proofs.Sorts.{asJob, asOne, asNode, asOut, asEnd, ofKind, kindOf, valuesIn}
 use Rattle.forms.specs.Due.{due}
 use Rattle.forms.proofs.Lines.{due-job, no-job, due-one, no-one, due-node, no-node, due-out, no-out, due-end, no-end, lines-after}
 use Rattle.diagram.specs.declared.Node.{Node}

@@ -18,7 +18,7 @@ ghost use Rattle.diagram.specs.Stored.{stored};
 ghost use Rattle.jobs.specs.Steps.{HeadStep, OneStep, NodeStep, OutStep, EndStep};
 
 // The position past the line that starts at a position; the same position where no line feed ends it.
-pub fn next_line(text: &[u8], at: usize) -> usize
+fn next_line(text: &[u8], at: usize) -> usize
     ensures { λ r. ⌜ linesOf (drop r (now (text .entry))) ≡ afterFirst (linesOf (drop at (now (text .entry)))) ⌝ }
 {
     let end = figures::line_end(text, at);

@@ -24,7 +24,7 @@ ghost use Rattle.jobs.specs.Reading.{readEnd};
 ghost use Rattle.jobs.specs.Steps.{OpeningStep, NodesStep, OutsStep, Listed, sizeTested, outlined, endLine, LinesRead};
 
 // The node table with zeros in every entry.
-pub fn clear_table(
+fn clear_table(
     xs: &mut [u16; MAX_NODES],
     ls: &mut [u16; MAX_NODES],
     hs: &mut [u16; MAX_NODES],
@@ -43,7 +43,7 @@ pub fn clear_table(
 }
 
 // The first two lines.
-pub fn read_opening(text: &[u8]) -> Opening
+fn read_opening(text: &[u8]) -> Opening
     ensures { λ r. ⌜ OpeningStep (now (text .entry)) r ⌝ }
 {
     let head = lines::head_line(text);
@@ -72,7 +72,7 @@ pub fn read_opening(text: &[u8]) -> Opening
 
 // Document 01, "Job text": "The reader fills a lent table of nodes, one entry a line." The n node lines from a position on; the
 // table is cleared first.
-pub fn read_nodes(
+fn read_nodes(
     text: &[u8],
     at: usize,
     xs: &mut [u16; MAX_NODES],
@@ -110,7 +110,7 @@ pub fn read_nodes(
 }
 
 // The k lines of the outputs from a position on, after n nodes.
-pub fn read_outs(
+fn read_outs(
     text: &[u8],
     at: usize,
     ts: &[u16; MAX_NODES],
@@ -147,7 +147,7 @@ pub fn read_outs(
 }
 
 // The answer for a refused job: zeros in every field.
-pub fn no_job(refusal: Refusal) -> JobRead
+fn no_job(refusal: Refusal) -> JobRead
     ensures { λ r. ⌜ r ≡ record { refusal = refusal; job = noJob } ⌝ }
 {
     JobRead {
@@ -196,7 +196,7 @@ pub fn finish(text: &[u8], ts: &[u16; MAX_NODES], o: Opening, outs: OutsRead) ->
 }
 
 // All lines in turn. After a refusal the table may hold entries.
-pub fn read_lines(
+fn read_lines(
     text: &[u8],
     xs: &mut [u16; MAX_NODES],
     ls: &mut [u16; MAX_NODES],

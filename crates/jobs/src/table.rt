@@ -77,8 +77,8 @@ pub fn read_table(text: &[u8]) -> TableRead
 }
 
 // The entries of a node table by field, for the walk and the placement, which look up one field at a time.
-pub fn fields_of(nodes: [Node; MAX_NODES]) -> Fields
-    ensures { λ r. ⌜ r ≡ fieldsOf nodes ⌝ }
+pub fn fields_of(table: TableRead) -> Fields
+    ensures { λ r. ⌜ r ≡ fieldsOf (table .nodes) ⌝ }
 {
     let mut f = Fields {
         xs: [0; MAX_NODES],
@@ -88,7 +88,7 @@ pub fn fields_of(nodes: [Node; MAX_NODES]) -> Fields
     };
     let mut k = 0;
     while k < MAX_NODES {
-        let node = nodes[k];
+        let node = table.nodes[k];
         f.xs[k] = node.x;
         f.ls[k] = node.l;
         f.hs[k] = node.h;

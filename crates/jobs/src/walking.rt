@@ -38,14 +38,18 @@ pub fn walk(text: &[u8], setting: &[u8], output: u32) -> Walked
     if output >= job.outputs as u32 {
         return no_walk();
     }
-    let nodes = table.nodes;
-    let fields = table::fields_of(nodes);
-    let xs = fields.xs;
-    let ls = fields.ls;
-    let hs = fields.hs;
+    let fields = table::fields_of(table);
     let id = job.outs[output as usize];
     let n = job.nodes as usize;
-    let value = walking::walk_value(&xs, &ls, &hs, job.switches, n, setting, id);
+    let value = walking::walk_value(
+        &fields.xs,
+        &fields.ls,
+        &fields.hs,
+        job.switches,
+        n,
+        setting,
+        id,
+    );
     Walked {
         refusal: Refusal { number: 0, line: 0 },
         value,

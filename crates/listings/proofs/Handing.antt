@@ -16,7 +16,8 @@ use Rattle.figures.specs.Line.{Lines, linesOf, lineEnd}
 use Rattle.cells.specs.Record.{Whole, size}
 use Rattle.forms.specs.declared.SizeForm.{SizeForm}
 use Rattle.forms.specs.declared.Form.the-variants as form
-use Rattle.forms.specs.Form.{formIn, notDue, kindOf, valuesIn, ofKind, asSize}
+use Rattle.forms.specs.Form.{formIn, notDue}
+use Rattle.forms.proofs.Sorts.{kindOf, valuesIn, ofKind, asSize}
 use Rattle.forms.proofs.Lines.{due-size, no-size, lines-after}
 use Rattle.listings.specs.declared.loading.Loaded.{Loaded}
 use Rattle.listings.specs.declared.loading.Outputs.{Outputs}

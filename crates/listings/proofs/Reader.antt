@@ -15,7 +15,8 @@ use Rattle.cells.specs.Code.{codeOf}
 use Rattle.forms.specs.declared.SizeForm.{SizeForm}
 use Rattle.forms.specs.declared.CellForm.{CellForm}
 use Rattle.forms.specs.declared.Form.the-variants as form
-use Rattle.forms.specs.Form.{formIn, notDue, asCell}
+use Rattle.forms.specs.Form.{formIn, notDue}
+use Rattle.forms.proofs.Sorts.{asCell}
 use Rattle.forms.proofs.Lines.{lines-after}
 use Rattle.listings.specs.declared.loading.Reached.the-variants as reached
 use Rattle.listings.specs.Loading.{cellFault, withCell, loadCells}

@@ -14,7 +14,8 @@ use Rattle.figures.specs.Line.{Lines, linesOf, afterFirst, lineEnd}
 use Rattle.forms.specs.declared.SizeForm.{SizeForm}
 use Rattle.forms.specs.declared.OutForm.{OutForm}
 use Rattle.forms.specs.declared.Form.the-variants as form
-use Rattle.forms.specs.Form.{formIn, notDue, kindOf, valuesIn, ofKind, asOut}
+use Rattle.forms.specs.Form.{formIn, notDue}
+use Rattle.forms.proofs.Sorts.{kindOf, valuesIn, ofKind, asOut}
 use Rattle.forms.proofs.Lines.{due-out, no-out, lines-after}
 use Rattle.listings.specs.Loading.{Listed, outRowFault, withOutRow, loadEnd, loadOuts}
 use Rattle.listings.specs.Loader.{listed}

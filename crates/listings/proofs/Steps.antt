@@ -20,7 +20,8 @@ use Rattle.cells.specs.declared.Cell.{Cell}
 use Rattle.cells.specs.declared.Cell.the-variants.{Off, On, Yes, No}
 use Rattle.forms.specs.declared.Form.{Form}
 use Rattle.forms.specs.declared.SizeForm.{SizeForm}
-use Rattle.forms.specs.Form.{Placed, placed, switchOf, cappedCell, capped, notDue, formIn, kindOf, ofKind, asEnd, asCell}
+use Rattle.forms.specs.Form.{Placed, placed, switchOf, notDue, formIn}
+use Rattle.forms.proofs.Sorts.{cappedCell, capped, kindOf, ofKind, asEnd, asCell}
 use Rattle.forms.specs.Due.{due}
 use Rattle.forms.proofs.Cases.{as-cell}
 use Rattle.forms.proofs.Lines.{due-end, no-end, lines-after}

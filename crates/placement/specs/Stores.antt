@@ -11,7 +11,7 @@ use Rattle.common.specs.Lists.{bit, any-of, zeros, padded}
 use Rattle.cells.specs.declared.Cell.the-variants.{Yes, No}
 use Rattle.cells.specs.declared.Crossbar.{Crossbar}
 use Rattle.cells.specs.Code.{codeOf}
-use Rattle.diagram.specs.Diagram.{Diagram, labelAt}
+use Rattle.diagram.specs.Diagram.{Diagram, labelB, labelAt}
 use Rattle.diagram.specs.Stored.{stored}
 use Rattle.diagram.specs.Wires.{hasRow, hasColumn, rowOf, columnOf, columnCount}
 
@@ -53,7 +53,7 @@ puts test place code (suc k) s = put (test k) (place k) (code k) (puts test plac
 
 -- the buffer s after the on cells of the ids below i, which only a `b` label has
 abbrev pub withOn : Diagram → ℕ → List ℕ → List ℕ
-withOn d = puts (λ i. eqb (labelAt d i) 3) (ownPlace d) (λ i. 1)
+withOn d = puts (λ i. eqb (labelAt d i) labelB) (ownPlace d) (λ i. 1)
 
 -- the buffer s after the edges of the first m nodes to their high children, or to their low ones: node k + 2 tests the switch at k of
 -- xs, its child is at k of children, and an edge to terminal 0 has no cell
@@ -70,7 +70,7 @@ withAll d n xs ls hs room = withEdges d true xs hs n (withEdges d false xs ls n 
 
 -- all on cells stand in a buffer of this length
 unfoldable pub OnFits : Diagram → ℕ → ℕ → Type 0
-OnFits d ids room = (i : ℕ) → i < ids → labelAt d i ≡ 3 → ownPlace d i < room
+OnFits d ids room = (i : ℕ) → i < ids → labelAt d i ≡ labelB → ownPlace d i < room
 
 pub record EdgesFit (d : Diagram) (n : ℕ) (xs children : List ℕ) (room : ℕ) : Type 0 where
   pub switch : (k : ℕ) → k < n → getD xs k 0 < maxSwitches

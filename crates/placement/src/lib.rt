@@ -28,15 +28,15 @@ pub struct Mapped {
 
 // Document 01, "Placement": the cells and the record of a job that breaks none of grounds 1 to 11, into a buffer long enough. The job
 // has v switches, terminal 1 labelled one, n nodes and k outputs.
-pub fn place(
+pub fn place<'a>(
     v: u16,
     one: u16,
     n: usize,
     k: usize,
-    xs: &[u16; MAX_NODES],
-    ls: &[u16; MAX_NODES],
-    hs: &[u16; MAX_NODES],
-    ts: &[u16; MAX_NODES],
+    xs: &'a [u16; MAX_NODES],
+    ls: &'a [u16; MAX_NODES],
+    hs: &'a [u16; MAX_NODES],
+    ts: &'a [u16; MAX_NODES],
     outs: &[u16; MAX_OUTPUTS],
     cells: &mut [u8],
 ) -> Crossbar

@@ -40,18 +40,13 @@ pub fn map(text: &[u8], cells: &mut [u8]) -> Mapped
     if refusal.number != 0 {
         return refuse(refusal);
     }
-    let nodes = table.nodes;
-    let fields = fields_of(nodes);
-    let xs = fields.xs;
-    let ls = fields.ls;
-    let hs = fields.hs;
-    let ts = fields.ts;
+    let fields = fields_of(table);
     let job = read.job;
     let outs = job.outs;
     let n = job.nodes as usize;
     let k = job.outputs as usize;
-    let rows = row_count(&ts, &outs, job.one, n, k);
-    let columns = column_count(&ts, job.one, n);
+    let rows = row_count(&fields.ts, &outs, job.one, n, k);
+    let columns = column_count(&fields.ts, job.one, n);
     if cells.len() < rows * columns {
         return refuse(Refusal {
             number: 14,
@@ -63,10 +58,10 @@ pub fn map(text: &[u8], cells: &mut [u8]) -> Mapped
         job.one,
         n,
         k,
-        &xs,
-        &ls,
-        &hs,
-        &ts,
+        &fields.xs,
+        &fields.ls,
+        &fields.hs,
+        &fields.ts,
         &outs,
         cells,
     );

@@ -10,6 +10,7 @@ ghost use Prim.Native.Nat.{_+_, _≤_};
 ghost use lib.ListN.{length};
 ghost use lib.Dec.{eqb};
 ghost use Rattle.common.specs.Limits.{maxNodes};
+ghost use Rattle.diagram.specs.Diagram.{labelH, labelV, labelB};
 ghost use Rattle.diagram.specs.Wires.{rowOwners};
 ghost use Rattle.placement.specs.Stores.{labels, Numbered};
 
@@ -26,14 +27,14 @@ pub struct Wires {
 
 // Labels `h` and `b` have a row.
 pub fn has_row(label: u16) -> bool
-    ensures { λ r. ⌜ r ≡ (eqb label 1 || eqb label 3) ⌝ }
+    ensures { λ r. ⌜ r ≡ (eqb label labelH || eqb label labelB) ⌝ }
 {
     label == LABEL_H || label == LABEL_B
 }
 
 // Labels `v` and `b` have a column.
 pub fn has_column(label: u16) -> bool
-    ensures { λ r. ⌜ r ≡ (eqb label 2 || eqb label 3) ⌝ }
+    ensures { λ r. ⌜ r ≡ (eqb label labelV || eqb label labelB) ⌝ }
 {
     label == LABEL_V || label == LABEL_B
 }

@@ -13,7 +13,7 @@ ghost use Prim.Native.Nat.{_+_, _*_, _<_, _≤_};
 ghost use lib.ListN.{length};
 ghost use lib.Dec.{eqb};
 ghost use Rattle.common.specs.Limits.{maxNodes, maxSwitches};
-ghost use Rattle.diagram.specs.Diagram.{labelAt};
+ghost use Rattle.diagram.specs.Diagram.{labelB, labelAt};
 ghost use Rattle.placement.specs.Stores.{labels, Numbered, edgePlace, edgeCode, ownPlace, put, withOn, withEdges, withAll, OnFits, EdgesFit};
 
 // Where the cell at a row and a column stands in the buffer.
@@ -73,8 +73,8 @@ fn on_cell(
 )
     requires { ⌜ (n ≤ maxNodes) × (id < 2 + n) ⌝ }
     requires { ⌜ Numbered (labels one n (now ts)) (2 + n) (now rows) (now columns) width ⌝ }
-    requires { ⌜ (labelAt (labels one n (now ts)) id ≡ 3 → ownPlace (labels one n (now ts)) id < length (now cells)) ⌝ }
-    ensures { λ r. ⌜ now (cells .exit) ≡ put (eqb (labelAt (labels one n (now (ts .entry))) id) 3) (ownPlace (labels one n (now (ts .entry))) id) 1 (now (cells .entry)) ⌝ }
+    requires { ⌜ (labelAt (labels one n (now ts)) id ≡ labelB → ownPlace (labels one n (now ts)) id < length (now cells)) ⌝ }
+    ensures { λ r. ⌜ now (cells .exit) ≡ put (eqb (labelAt (labels one n (now (ts .entry))) id) labelB) (ownPlace (labels one n (now (ts .entry))) id) 1 (now (cells .entry)) ⌝ }
 {
     if label_at(ts, one, n, id) == LABEL_B {
         let at = place_of(rows[id], columns[id], width);
@@ -83,7 +83,7 @@ fn on_cell(
 }
 
 // The on cells of all `b` labels.
-pub fn on_cells(
+fn on_cells(
     ts: &[u16; MAX_NODES],
     one: u16,
     n: usize,
@@ -129,7 +129,7 @@ fn edge_cell(
 }
 
 // The cells of the edges to the high children, or to the low ones.
-pub fn edge_cells(
+fn edge_cells(
     ts: &[u16; MAX_NODES],
     one: u16,
     n: usize,

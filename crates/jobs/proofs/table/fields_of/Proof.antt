@@ -1,18 +1,20 @@
 -- `jobs::table::fields_of` meets its contract: after k turns the arrays have the fields of the first k entries. Assumes nothing.
 use Prim.Native.Nat.{_-_}
-use mathlib.Core.Path.{refl}
+use mathlib.Core.Path.{refl, sym, _∙_}
 use native.Mathlib.Omega.{arith}
+use lib.ListN.{length-map}
 use Rattle.common.specs.Limits.{maxNodes}
 use Rattle.diagram.specs.Diagram.{no-node}
+use Rattle.diagram.proofs.Node as N
 use Rattle.jobs.proofs.Filled.{Apart, apart-none, apart-more, apart-all}
 use Rattle.jobs.proofs.table.fields_of.Statement.{statement}
 use Rattle.jobs.proofs.table.fields_of.Tie as tie
 
 abbrev Inv-loop : tie.InvT-loop
-Inv-loop nodes f₀ k₀ f k = Apart nodes k f
+Inv-loop table f₀ k₀ f k = Apart (table .nodes) k f
 
 abbrev μ-loop : tie.MeasureT-loop
-μ-loop nodes f₀ k₀ f k = maxNodes - k
+μ-loop table f₀ k₀ f k = maxNodes - k
 
 loop-holds : tie.Need-loop-holds Inv-loop μ-loop
 unfolding maxNodes
@@ -22,9 +24,9 @@ mul-node : tie.Need-mul-node Inv-loop μ-loop
 unfolding maxNodes
 mul-node c = omega arith
 
-array-copy-out-node : tie.Need-array-copy-out-node Inv-loop μ-loop
+element-copy-out-node : tie.Need-element-copy-out-node Inv-loop μ-loop
 unfolding maxNodes
-array-copy-out-node c = omega arith
+element-copy-out-node c = omega arith
 
 mul-f : tie.Need-mul-f Inv-loop μ-loop
 unfolding maxNodes
@@ -72,7 +74,9 @@ loop-again c = apart-more _ _ _ (c .before .loop-test .taken) (c .before .before
 
 returns : tie.Need-returns Inv-loop μ-loop
 unfolding maxNodes
-returns c = apart-all _ _ _ (c .loop-test .left) (c .before .before .good .0 .1 .0 .1) (c .before .loop .inv)
+returns c =
+    let count = c .before .before .good .0 .1 .1 .1 .0 .1 .0 .1 in
+    apart-all _ _ _ (c .loop-test .left) (sym (length-map (c .before .before .args .t1 .nodes) (N.the-type .to)) ∙ count) (c .before .loop .inv)
 
 pub fields-of-spec : {M : Type 1} → statement M
 fields-of-spec =
@@ -82,7 +86,7 @@ fields-of-spec =
     μ-loop
     loop-holds
     mul-node
-    array-copy-out-node
+    element-copy-out-node
     mul-f
     element-write-f
     mul-f-2

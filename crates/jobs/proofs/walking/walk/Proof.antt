@@ -47,25 +47,25 @@ mul-id c = search needs
 element-copy-out-id : tie.Need-element-copy-out-id
 unfolding maxOutputs
 element-copy-out-id c =
-    let read = table-answer _ _ (c .before .before .before .before .before .before .before .before .before .before .before .before .before .read-table .ensures) in
-    let few = outs-few _ _ read (c .before .before .before .before .before .before .before .before .before .if1 .left) in
-    omega (arith, few, c .before .before .before .before .before .if3 .left)
+    let read = table-answer _ _ (c .before .before .before .before .before .before .before .before .before .read-table .ensures) in
+    let few = outs-few _ _ read (c .before .before .before .before .before .if1 .left) in
+    omega (arith, few, c .before .if3 .left)
 
 cast-n : tie.Need-cast-n
 cast-n c = search needs
 
 walk-value-requires : tie.Need-walk-value-requires
 walk-value-requires c κs =
-    nodes-few _ _ (table-answer _ _ (c .before .before .before .before .before .before .before .before .before .before .before .before .before .before .before .before .before .read-table .ensures)) (c .before .before .before .before .before .before .before .before .before .before .before .before .before .if1 .left)
+    nodes-few _ _ (table-answer _ _ (c .before .before .before .before .before .before .before .before .before .before .before .before .before .before .read-table .ensures)) (c .before .before .before .before .before .before .before .before .before .before .if1 .left)
 
 returns-4 : tie.Need-returns-4
 returns-4 c =
-    let table = c .before .before .before .before .before .before .before .before .before .before .before .before .before .before .before .before .before .before .read-table .ensures in
-    let set = held (c .before .before .before .before .before .before .before .before .before .before .before .before .is-setting .ensures) (c .before .before .before .before .before .before .before .before .before .before .before .if2 .left) in
-    walk-found _ _ _ _ (table-answer _ _ table) (c .before .before .before .before .before .before .before .before .before .before .before .before .before .before .if1 .left) set _ _ _ _ _ _
-    (table-held _ _ table _ (c .before .before .before .before .before .before .before .before .fields-of .ensures))
+    let table = c .before .before .before .before .before .before .before .before .before .before .before .before .before .before .before .read-table .ensures in
+    let set = held (c .before .before .before .before .before .before .before .before .before .is-setting .ensures) (c .before .before .before .before .before .before .before .before .if2 .left) in
+    walk-found _ _ _ _ (table-answer _ _ table) (c .before .before .before .before .before .before .before .before .before .before .before .if1 .left) set _ _ _ _ _ _
+    (table-held _ _ table _ (c .before .before .before .before .before .before .fields-of .ensures))
     refl
-    (c .before .before .before .before .before .before .before .before .before .before .if3 .left)
+    (c .before .before .before .before .before .before .before .if3 .left)
     (c .walk-value .ensures)
 
 pub walk-spec : {M : Type 1} → statement M

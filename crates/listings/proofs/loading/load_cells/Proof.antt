@@ -6,7 +6,7 @@ use mathlib.Core.Path.{sym, ap, _∙_}
 use native.Mathlib.Omega.{arith}
 use lib.ListN.{length}
 use Rattle.common.specs.Limits.{maxRows, maxColumns}
-use Rattle.forms.specs.Form.{asCell}
+use Rattle.forms.proofs.Sorts.{asCell}
 use Rattle.forms.proofs.Cases.{not-cell}
 use Rattle.listings.proofs.Steps.{ranged, cells-most, end-forward}
 use Rattle.listings.proofs.Reader.{Going, going-start, held, going-other, going-inside, going-fault, going-more, right}

@@ -5,7 +5,7 @@ use mathlib.Core.Path.{sym, ap, _∙_}
 use native.Mathlib.Omega.{arith}
 use lib.ListN.{length}
 use Rattle.figures.specs.Line.{lineEnd}
-use Rattle.forms.specs.Form.{asEnd, ofKind, kindOf, valuesIn}
+use Rattle.forms.proofs.Sorts.{asEnd, ofKind, kindOf, valuesIn}
 use Rattle.forms.proofs.Cases.{not-end}
 use Rattle.listings.specs.Loader.{outputsOf}
 use Rattle.listings.proofs.Steps.{end-missing, end-inside, end-more, end-last}

@@ -4,7 +4,7 @@ use mathlib.Core.Path.{_≡_, refl, sym, ap, _∙_}
 use native.Mathlib.Omega.{arith}
 use lib.ListN.{length}
 use Rattle.common.specs.Lists.{zeros}
-use Rattle.forms.specs.Form.{asSize}
+use Rattle.forms.proofs.Sorts.{asSize}
 use Rattle.forms.proofs.Cases.{not-size}
 use Rattle.listings.proofs.Handing.{then-refused, handed-as, handed-rest, first-missing, size-right, first-inside, first-fault, first-right}
 use Rattle.listings.proofs.loading.load_from.Statement.{statement}

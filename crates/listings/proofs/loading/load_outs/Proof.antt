@@ -5,7 +5,7 @@ use Prim.Native.Nat.{_-_}
 use mathlib.Core.Path.{sym, ap, _∙_}
 use native.Mathlib.Omega.{arith}
 use Rattle.common.specs.Limits.{maxRows, maxOutputs}
-use Rattle.forms.specs.Form.{asOut}
+use Rattle.forms.proofs.Sorts.{asOut}
 use Rattle.forms.proofs.Cases.{not-out}
 use Rattle.listings.specs.Loader.{listed, outputsOf}
 use Rattle.listings.proofs.Steps.{ranged}
