@@ -32,7 +32,7 @@ extern "C" {
 #define CROSSBAR_MAX_CELLS (CROSSBAR_MAX_ROWS * CROSSBAR_MAX_COLUMNS)
 #define CROSSBAR_MAX_WIRES (CROSSBAR_MAX_ROWS + CROSSBAR_MAX_COLUMNS)
 #define CROSSBAR_MAX_LISTING 393728
-#define CROSSBAR_STACK 16384
+#define CROSSBAR_STACK 32768
 
 /* The parts of an answer. */
 #define CROSSBAR_NUMBER(answer) ((unsigned)((uint64_t)(answer) >> 56))
