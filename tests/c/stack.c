@@ -52,19 +52,36 @@ static long touched(void (*call)(void))
     return STACK_ROOM - low;
 }
 
-/* The parity of 64 switches: a walk from the top passes every switch. */
+static char *node(char *at, int id, int level, int low, int high)
+{
+    return at + sprintf(at, "(node %d %d (%d %d) %c)\n", id, level, low, high, level % 2 ? 'v' : 'h');
+}
+
+/*
+ * The parity of 64 switches, so that a walk from the top passes every switch, and more nodes on each level: 254 nodes, 32 outputs, 128
+ * rows and 127 columns.
+ */
 static void make_job(void)
 {
     char *at = (char *)text;
-    int level, i = 2;
-    at += sprintf(at, "(job 64 128 1)\n(one h)\n");
-    for (level = 63; level >= 0; level--, i += 2) {
-        char label = level % 2 ? 'v' : 'h';
-        int odd = level == 63 ? 0 : i - 2, even = level == 63 ? 1 : i - 1;
-        at += sprintf(at, "(node %d %d (%d %d) %c)\n", i, level, odd, even, label);
-        at += sprintf(at, "(node %d %d (%d %d) %c)\n", i + 1, level, even, odd, label);
+    int level, id = 2, odd = 0, even = 1, top = 0, j;
+    at += sprintf(at, "(job 64 254 32)\n(one h)\n");
+    for (level = 63; level >= 0; level--) {
+        top = id;
+        at = node(at, id++, level, odd, even);
+        at = node(at, id++, level, even, odd);
+        if (level < 63)
+            at = node(at, id++, level, 0, odd);
+        if (level < 63 && level > 0)
+            at = node(at, id++, level, odd, 0);
+        if (level == 1)
+            at = node(at, id++, level, 0, even);
+        odd = top;
+        even = top + 1;
     }
-    at += sprintf(at, "(out 0 128)\n(end)\n");
+    for (j = 0; j < 32; j++)
+        at += sprintf(at, "(out %d %d)\n", j, top);
+    at += sprintf(at, "(end)\n");
     text_length = (size_t)(at - (char *)text);
 }
 
@@ -92,8 +109,8 @@ int main(void)
         uint64_t number;
         uint64_t value;
     } calls[] = {
-        {"map", map, 0, 65 * 64},     {"walk", walk, 0, 1},          {"print", print, 0, 0},
-        {"load", load, 0, 128 * 128}, {"light", light, 0, 255},      {"refusal", refuse, 1, 132},
+        {"map", map, 0, 128 * 127},    {"walk", walk, 0, 1},          {"print", print, 0, 0},
+        {"load", load, 0, 128 * 128}, {"light", light, 0, 255},      {"refusal", refuse, 1, 289},
     };
     size_t i;
     long own, most = 0;

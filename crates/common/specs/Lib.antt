@@ -1,3 +1,4 @@
+pub mod Labels
 pub mod Limits
 pub mod Lists
 pub mod Outcome

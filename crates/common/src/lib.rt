@@ -18,6 +18,13 @@ pub const MAX_INPUT: usize = 65535;
 // The most bytes that a program prints, reckoned from the limits above.
 pub const MAX_TEXT: usize = 393728;
 
+// Document 01, "Job text": "T (1 for `h`, 2 for `v`, 3 for `b`)".
+pub const LABEL_H: u16 = 1;
+
+pub const LABEL_V: u16 = 2;
+
+pub const LABEL_B: u16 = 3;
+
 // Document 01, "Grounds for sending a job back": a refusal is its number and a line. Number 0 is no refusal.
 pub struct Refusal {
     pub number: u32,

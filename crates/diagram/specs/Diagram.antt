@@ -4,16 +4,6 @@ use mathlib.Core.List.{List, [], _∷_, _++_}
 use lib.ListN.{length, getD}
 use Rattle.diagram.specs.declared.Node.{Node}
 
--- "T (1 for `h`, 2 for `v`, 3 for `b`)"; what has no label has 0
-abbrev pub labelH : ℕ
-labelH = 1
-
-abbrev pub labelV : ℕ
-labelV = 2
-
-abbrev pub labelB : ℕ
-labelB = 3
-
 -- V switches, the label of terminal 1, the nodes in rising id from id 2 on, and the ids that the outputs name, output 0 first
 pub record Diagram : Type 0 where
   pub switches : ℕ

@@ -1,17 +1,17 @@
--- What holds of a diagram whose lines break none of grounds 2 to 9 and 11, as plain facts: `accepted-job` in jobs/proofs/Accepted.antt
+-- What holds of a diagram whose lines break none of grounds 1 to 9 and 11, as plain facts: `accepted-job` in jobs/proofs/Accepted.antt
 -- shows them of every accepted job. Theorems use them, and so does the contract of the placement.
 use Prim.Native.Nat.{ℕ, _≤_, _<_}
 use mathlib.Core.Path.{_≡_}
 use mathlib.Core.Logic.{_⊎_}
-use mathlib.Core.Bool.{Bool, false}
-use mathlib.Core.List.{List}
+use mathlib.Core.Bool.{false}
 use lib.ListN.{length, getD}
+use Rattle.common.specs.Labels.{labelH, labelV, labelB}
 use Rattle.common.specs.Limits.{maxRows, maxColumns, maxSwitches, maxNodes, maxOutputs}
-use Rattle.diagram.specs.Diagram.{Diagram, labelH, labelV, labelB, idCount, switchAt, lowAt, highAt, labelAt}
+use Rattle.diagram.specs.Diagram.{Diagram, idCount, switchAt, lowAt, highAt, labelAt}
 use Rattle.diagram.specs.Faults.{alike}
 use Rattle.diagram.specs.Wires.{rowCount, columnCount}
 
--- of a node: grounds 4 to 7 and 9
+-- of a node: grounds 1 (that its label is one of the three), 4 to 7 and 9
 pub record NodeFacts (d : Diagram) (i : ℕ) : Type 0 where
   pub tests : switchAt d i < d .switches
   pub low-below : lowAt d i < i

@@ -1,15 +1,16 @@
 -- Document 01, "Grounds for sending a job back", 2 to 9, for each kind of line: the lowest number that the line meets, 0 where it
 -- meets none.
-use Prim.Native.Nat.{ℕ, _+_}
+use Prim.Native.Nat.{ℕ}
 use mathlib.Core.Bool.{Bool, not, _&&_, _||_}
-use mathlib.Core.List.{List, [], _∷_}
+use mathlib.Core.List.{[], _∷_}
 use lib.ListN.{length}
 use lib.Dec.{eqb, leb, ltb}
+use Rattle.common.specs.Labels.{labelH, labelV}
 use Rattle.common.specs.Limits.{maxSwitches, maxNodes, maxOutputs}
 use Rattle.common.specs.Lists.{any-of}
 use Rattle.common.specs.Outcome.{_when_, lowest}
 use Rattle.diagram.specs.declared.Node.{Node}
-use Rattle.diagram.specs.Diagram.{Diagram, labelH, labelV, idCount, switchAt, labelAt}
+use Rattle.diagram.specs.Diagram.{Diagram, idCount, switchAt, labelAt}
 
 -- 2: "A figure of the first line is outside its range."
 unfoldable pub headFault : ℕ → ℕ → ℕ → ℕ

@@ -22,7 +22,7 @@ steps d setting (suc n) i = steps d setting n (step d setting i)
 unfoldable pub walkEnd : Diagram → List ℕ → ℕ → ℕ
 walkEnd d setting i = steps d setting (length (d .nodes)) i
 
--- "the diagram's value, 0 or 1": 1 when the walk ends at terminal 1
+-- "The services": "the diagram's value, 0 or 1": 1 when the walk ends at terminal 1
 unfoldable pub walkValue : Diagram → List ℕ → ℕ → ℕ
 walkValue d setting i = bit (eqb (walkEnd d setting i) 1)
 

@@ -4,14 +4,18 @@ use mathlib.Core.Bool.{Bool, true, false, _||_}
 use mathlib.Core.List.{List, [], _∷_, _++_}
 use lib.ListN.{length}
 use lib.Dec.{eqb, ltb}
+use Rattle.common.specs.Labels.{labelH, labelV, labelB}
 use Rattle.common.specs.Limits.{maxRows, maxColumns}
 use Rattle.common.specs.Lists.{bit, any-of}
-use Rattle.diagram.specs.Diagram.{Diagram, labelH, labelV, labelB, idCount, labelAt}
+use Rattle.diagram.specs.Diagram.{Diagram, idCount, labelAt}
 
--- whether an id has a wire of one kind, that of `h` for rows and that of `v` for columns: its label is that or both. "Labels T: `h` a row,
--- `v` a column, `b` both." "Terminal 0 has no wire": it has no label.
+-- whether a label, and an id, has a wire of one kind, that of `h` for rows and that of `v` for columns: "Labels T: `h` a row, `v` a column,
+-- `b` both." "Terminal 0 has no wire": it has no label.
+abbrev pub labelHas : ℕ → ℕ → Bool
+labelHas kind t = eqb t kind || eqb t labelB
+
 abbrev pub hasWire : ℕ → Diagram → ℕ → Bool
-hasWire kind d i = eqb (labelAt d i) kind || eqb (labelAt d i) labelB
+hasWire kind d i = labelHas kind (labelAt d i)
 
 unfoldable pub hasRow : Diagram → ℕ → Bool
 hasRow d i = hasWire labelH d i
@@ -40,8 +44,11 @@ unfoldable pub columnOf : Diagram → ℕ → ℕ
 columnOf d i = length (owners (hasColumn d) i)
 
 -- "If any output names 0, one last row without cells serves all such outputs."
+abbrev pub anyZero : List ℕ → Bool
+anyZero outs = any-of (λ i. eqb i 0) outs
+
 unfoldable pub namesZero : Diagram → Bool
-namesZero d = any-of (λ i. eqb i 0) (d .outs)
+namesZero d = anyZero (d .outs)
 
 -- R and C
 unfoldable pub rowCount : Diagram → ℕ

@@ -1,8 +1,8 @@
 // Document 01, "Placement" and ground 11: how many rows and columns a diagram has.
-use super::LABEL_B;
-use super::LABEL_H;
-use super::LABEL_V;
 use super::entry::label_at;
+use common::LABEL_B;
+use common::LABEL_H;
+use common::LABEL_V;
 use common::MAX_COLUMNS;
 use common::MAX_NODES;
 use common::MAX_OUTPUTS;
@@ -13,9 +13,8 @@ ghost use Prim.Native.Nat.{ℕ, _≤_};
 ghost use lib.ListN.{length, take};
 ghost use Rattle.common.specs.Limits.{maxNodes, maxOutputs};
 ghost use Rattle.common.specs.Lists.{bit};
-ghost use Rattle.diagram.specs.Diagram.{Diagram};
 ghost use Rattle.diagram.specs.Stored.{stored};
-ghost use Rattle.diagram.specs.Wires.{hasWire, owners, rowOwners, columnCount, namesZero, rowCount, tooLarge};
+ghost use Rattle.diagram.specs.Wires.{hasWire, owners, rowOwners, columnCount, anyZero, rowCount, tooLarge};
 
 // 1 where an id has a wire of the kind, LABEL_H for a row and LABEL_V for a column, and 0 where it has none.
 fn wire_of(ts: &[u16; MAX_NODES], one: u16, n: usize, kind: u16, id: usize) -> usize
@@ -64,7 +63,7 @@ pub fn column_count(ts: &[u16; MAX_NODES], one: u16, n: usize) -> usize
 // Whether one of the first k outputs names 0.
 pub fn names_zero(outs: &[u16; MAX_OUTPUTS], k: usize) -> bool
     requires { ⌜ (k ≤ maxOutputs) × (k ≤ length (now outs)) ⌝ }
-    ensures { λ r. ⌜ ((d : Diagram) → d .outs ≡ take k (now (outs .entry)) → r ≡ namesZero d) ⌝ }
+    ensures { λ r. ⌜ r ≡ anyZero (take k (now (outs .entry))) ⌝ }
 {
     let mut j = 0;
     while j < k {

@@ -1,9 +1,9 @@
 // Document 01, "Grounds for sending a job back", 2 to 9: the lowest number that a line meets, 0 where it meets none. The diagram is
 // what the lines before it say.
-use super::LABEL_H;
-use super::LABEL_V;
 use super::entry::label_at;
 use super::entry::switch_at;
+use common::LABEL_H;
+use common::LABEL_V;
 use common::MAX_NODES;
 use common::MAX_OUTPUTS;
 use common::MAX_SWITCHES;

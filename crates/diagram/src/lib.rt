@@ -12,10 +12,3 @@ pub struct Node {
     pub h: u16,
     pub t: u16,
 }
-
-// Document 01, "Job text": "1 for `h`, 2 for `v`, 3 for `b`"
-pub const LABEL_H: u16 = 1;
-
-pub const LABEL_V: u16 = 2;
-
-pub const LABEL_B: u16 = 3;

@@ -72,7 +72,8 @@ fn walk_end(
     id
 }
 
-// "the diagram's value, 0 or 1": 1 when the walk ends at terminal 1.
+// "the diagram's value, 0 or 1": 1 when the walk ends at terminal 1. The arrays have one lifetime, so that a caller may lend the fields of
+// one struct.
 pub fn walk_value<'a>(
     xs: &'a [u16; MAX_NODES],
     ls: &'a [u16; MAX_NODES],

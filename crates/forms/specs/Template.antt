@@ -7,6 +7,7 @@ use mathlib.Core.Option.{Option, some, none, Option·map}
 use mathlib.Core.List.{List, [], _∷_, _++_}
 use lib.ListN.{getD, drop}
 use lib.Dec.{eqb}
+use Rattle.common.specs.Labels.{labelH, labelV, labelB}
 use Rattle.figures.specs.Bytes.{bytes, after}
 use Rattle.figures.specs.Figure.{takeFigure, decimal}
 
@@ -18,14 +19,14 @@ pub data Item : Type 0 where
 abbrev pub Template : Type 0
 Template = List Item
 
--- "Labels T: `h` a row, `v` a column, `b` both", and the node table's "1 for `h`, 2 for `v`, 3 for `b`"; 0 for any other byte
+-- "Labels T: `h` a row, `v` a column, `b` both", and the node table's "1 for `h`, 2 for `v`, 3 for `b`", of the bytes 104, 118 and 98; 0 for any other byte
 unfoldable pub labelOf : ℕ → ℕ
 labelOf b =
-    elim (eqb b 104) [ true ↦ 1 | false ↦ elim (eqb b 118) [ true ↦ 2 | false ↦ elim (eqb b 98) [ true ↦ 3 | false ↦ 0 ] ] ]
+    elim (eqb b 104) [ true ↦ labelH | false ↦ elim (eqb b 118) [ true ↦ labelV | false ↦ elim (eqb b 98) [ true ↦ labelB | false ↦ 0 ] ] ]
 
--- the byte of a label
+-- the byte of a label; only the three labels are written
 unfoldable pub letterOf : ℕ → ℕ
-letterOf t = elim (eqb t 1) [ true ↦ 104 | false ↦ elim (eqb t 2) [ true ↦ 118 | false ↦ 98 ] ]
+letterOf t = elim (eqb t labelH) [ true ↦ 104 | false ↦ elim (eqb t labelV) [ true ↦ 118 | false ↦ 98 ] ]
 
 -- the values of a line under a template, or nothing where the line is no such form
 unfoldable pub values : Template → List ℕ → Option (List ℕ)

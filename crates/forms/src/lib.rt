@@ -2,6 +2,9 @@
 pub mod write;
 
 use cells::Cell;
+use common::LABEL_B;
+use common::LABEL_H;
+use common::LABEL_V;
 use common::Refusal;
 use figures::Figure;
 ghost use mathlib.Core.Path.{_≡_};
@@ -76,13 +79,13 @@ struct Values {
 fn label_of(b: u8) -> u32
     ensures { λ r. ⌜ r ≡ labelOf b ⌝ }
 {
-    if b == 104 {
-        return 1;
+    if b == b'h' {
+        return LABEL_H as u32;
     }
-    if b == 118 {
-        return 2;
+    if b == b'v' {
+        return LABEL_V as u32;
     }
-    if b == 98 { 3 } else { 0 }
+    if b == b'b' { LABEL_B as u32 } else { 0 }
 }
 
 // What the byte `p` of a pattern takes at a position of a line: a figure, a label, or the byte itself with the value 0.

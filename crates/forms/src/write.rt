@@ -1,6 +1,8 @@
 // A line written from a pattern and its values.
 use super::FIGURE;
 use super::LABEL;
+use common::LABEL_H;
+use common::LABEL_V;
 ghost use mathlib.Core.Path.{_≡_};
 ghost use mathlib.Core.List.{_∷_, []};
 ghost use lib.ListN.{getD};
@@ -45,10 +47,10 @@ fn write_number(out: &mut [u8], at: usize, n: u32) -> Wrote
 fn letter_of(t: u32) -> u8
     ensures { λ r. ⌜ r ≡ letterOf t ⌝ }
 {
-    if t == 1 {
-        return 104;
+    if t == LABEL_H as u32 {
+        return b'h';
     }
-    if t == 2 { 118 } else { 98 }
+    if t == LABEL_V as u32 { b'v' } else { b'b' }
 }
 
 // How many values a byte of a pattern uses.

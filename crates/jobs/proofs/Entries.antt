@@ -16,9 +16,16 @@ use Rattle.diagram.specs.Stored.{stored, storedNode}
 use Rattle.jobs.specs.declared.JobRead.{JobRead}
 use Rattle.jobs.specs.declared.Fields.{Fields}
 use Rattle.jobs.specs.declared.TableRead.{TableRead}
-use Rattle.jobs.specs.Answer.{jobRead, Holds, fieldsOf, textRead, tableRead}
+use Rattle.jobs.specs.Answer.{jobRead, fieldsOf, textRead, tableRead}
 use Rattle.jobs.specs.Job.{accepted, table}
 use Rattle.jobs.specs.Steps.{Clear, AllClear}
+
+-- four arrays that hold the entries of a table: X, L, H and T of each
+pub record Holds (nodes : List Node) (xs ls hs ts : List ℕ) : Type 0 where
+  pub switches : xs ≡ map (λ n. n .x) nodes
+  pub lows : ls ≡ map (λ n. n .l) nodes
+  pub highs : hs ≡ map (λ n. n .h) nodes
+  pub labels : ts ≡ map (λ n. n .t) nodes
 
 -- an entry of a list with more of its default after it
 getD-more : {A : Type 0} (l : List A) (m k : ℕ) (d : A) → getD (l ++ replicate m d) k d ≡ getD l k d
@@ -159,8 +166,12 @@ pub text-held :
 unfolding textRead fieldsOf
 text-held o xs ls hs ts r e h = cc
 
+pub holds-fields : (ns : List Node) (xs ls hs ts : List ℕ) → Holds ns xs ls hs ts → record { xs = xs; ls = ls; hs = hs; ts = ts } ≡ fieldsOf ns
+unfolding fieldsOf
+holds-fields ns xs ls hs ts h = cc
+
 -- the fields of a table hold it
-fields-hold : (ns : List Node) (f : Fields) → f ≡ fieldsOf ns → Holds ns (f .xs) (f .ls) (f .hs) (f .ts)
+pub fields-hold : (ns : List Node) (f : Fields) → f ≡ fieldsOf ns → Holds ns (f .xs) (f .ls) (f .hs) (f .ts)
 unfolding fieldsOf
 fields-hold ns f e =
     record {

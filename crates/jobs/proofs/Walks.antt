@@ -17,9 +17,9 @@ use Rattle.diagram.specs.Walk.{walkValue, Falls}
 use Rattle.diagram.proofs.Walk.{facts-fall}
 use Rattle.jobs.specs.declared.JobRead.{JobRead}
 use Rattle.jobs.specs.Job.{accepted, table, walk}
-use Rattle.jobs.specs.Answer.{jobOf, jobRead, Holds, walked}
+use Rattle.jobs.specs.Answer.{jobOf, jobRead, walked}
 use Rattle.jobs.proofs.Accepted.{accepted-job}
-use Rattle.jobs.proofs.Entries.{job-stored}
+use Rattle.jobs.proofs.Entries.{Holds, job-stored}
 use Rattle.jobs.proofs.Whole.{read-done}
 
 -- a refusal of the job is walk's refusal

@@ -22,7 +22,7 @@ use Rattle.jobs.specs.declared.OutsRead.{OutsRead}
 use Rattle.jobs.specs.declared.JobRead.{JobRead}
 use Rattle.jobs.specs.Reading.{ReadText, readEnd, readOuts, readText}
 use Rattle.jobs.specs.Job.{accepted, table}
-use Rattle.jobs.specs.Answer.{noJob, jobOf, jobRead, Holds}
+use Rattle.jobs.specs.Answer.{noJob, jobOf, jobRead}
 use Rattle.jobs.specs.Steps.{
   unlessRefused,
   OpeningStep,
@@ -38,7 +38,7 @@ use Rattle.jobs.specs.Steps.{
 use Rattle.jobs.proofs.Accepted.{read-end}
 use Rattle.jobs.proofs.Due.{unless-some}
 use Rattle.jobs.proofs.Refusals.{accepted-done}
-use Rattle.jobs.proofs.Entries.{stored-held, zeros-held, padded-take}
+use Rattle.jobs.proofs.Entries.{Holds, holds-fields, stored-held, zeros-held, padded-take}
 
 -- an accepted job is a text that was read and passes ground 11
 accepted-is : (s : List ℕ) → accepted s ≡ sizeTested (readText s)
@@ -170,7 +170,8 @@ module _ (s xs ls hs ts : List ℕ) (o : Opening) (opened : OpeningStep s o) whe
                 answer = e ∙ ap jobRead (sym at-end);
                 held = λ d found.
                     rw (found, at-end-is d found)
-                    (stored-held (o .switches) (o .one) (o .nodes) xs ls hs ts _ (opened .sized .nodes-most) (nodes .clear));
+                    (holds-fields _ xs ls hs ts
+                    (stored-held (o .switches) (o .one) (o .nodes) xs ls hs ts _ (opened .sized .nodes-most) (nodes .clear)));
               }
 
 -- after a refusal the table is cleared

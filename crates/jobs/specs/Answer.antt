@@ -35,13 +35,6 @@ noJob = record { switches = 0; one = 0; nodes = 0; outputs = 0; outs = zeros max
 unfoldable pub jobRead : Outcome Diagram → JobRead
 jobRead o = record { refusal = refusalOf o; job = valueOf noJob jobOf o }
 
--- four arrays that hold the entries of a table: X, L, H and T of each
-pub record Holds (nodes : List Node) (xs ls hs ts : List ℕ) : Type 0 where
-  pub switches : xs ≡ map (λ n. n .x) nodes
-  pub lows : ls ≡ map (λ n. n .l) nodes
-  pub highs : hs ≡ map (λ n. n .h) nodes
-  pub labels : ts ≡ map (λ n. n .t) nodes
-
 -- the entries of a table by field
 unfoldable pub fieldsOf : List Node → Fields
 fieldsOf nodes = record { xs = map (λ n. n .x) nodes; ls = map (λ n. n .l) nodes; hs = map (λ n. n .h) nodes; ts = map (λ n. n .t) nodes }

@@ -19,7 +19,7 @@ use Rattle.jobs.specs.declared.Opening.{Opening}
 use Rattle.jobs.specs.declared.NodesRead.{NodesRead}
 use Rattle.jobs.specs.declared.OutsRead.{OutsRead}
 use Rattle.jobs.specs.declared.JobRead.{JobRead}
-use Rattle.jobs.specs.Answer.{jobRead, Holds}
+use Rattle.jobs.specs.Answer.{jobRead, fieldsOf}
 use Rattle.jobs.specs.Job.{accepted, table}
 use Rattle.jobs.specs.Reading.{ReadText, readEnd, readOuts, readNodes, readOne, readText}
 
@@ -121,4 +121,4 @@ pub record Listed (o : Opening) (outs : OutsRead) : Type 0 where
 -- after all lines, and grounds 10 and 11: the answer, and the table of a job that is accepted
 pub record LinesRead (s xs ls hs ts : List ℕ) (r : JobRead) : Type 0 where
   pub answer : r ≡ jobRead (accepted s)
-  pub held : (d : Diagram) → accepted s ≡ done d → Holds (table (accepted s)) xs ls hs ts
+  pub held : (d : Diagram) → accepted s ≡ done d → record { xs = xs; ls = ls; hs = hs; ts = ts } ≡ fieldsOf (table (accepted s))

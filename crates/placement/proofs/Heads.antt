@@ -38,11 +38,6 @@ rows-more f outs n j h k =
     pad-more n (map f (take j outs)) (f (getD outs j 0)) j long k
     ∙ rw (add-one j, take-suc outs j 0 h, map-append)
 
--- whether an output names 0, which the record says by its number of rows
-pub names-any : (outs : List ℕ) (names : Bool) → ((d : Diagram) → d .outs ≡ outs → names ≡ namesZero d) → names ≡ any-of (λ i. eqb i 0) outs
-unfolding namesZero
-names-any outs names h = h (record { switches = 0; one = 0; nodes = []; outs = outs }) refl
-
 -- the record with all outputs in
 pub head-from :
     (rows outs table : List ℕ) (height width v k : ℕ) (names : Bool)

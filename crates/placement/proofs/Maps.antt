@@ -21,9 +21,9 @@ use Rattle.diagram.specs.Wires.{rowCount, columnCount}
 use Rattle.diagram.specs.Facts.{Facts, Sizes}
 use Rattle.jobs.specs.declared.JobRead.{JobRead}
 use Rattle.jobs.specs.Job.{accepted, table}
-use Rattle.jobs.specs.Answer.{jobOf, jobRead, Holds}
+use Rattle.jobs.specs.Answer.{jobOf, jobRead}
 use Rattle.jobs.proofs.Accepted.{accepted-job}
-use Rattle.jobs.proofs.Entries.{job-stored}
+use Rattle.jobs.proofs.Entries.{Holds, job-stored}
 use Rattle.jobs.proofs.Whole.{read-done}
 use Rattle.jobs.proofs.Walks.{read-is, nodes-few, outs-few}
 use Rattle.placement.specs.declared.Mapped.{Mapped}

@@ -1,4 +1,4 @@
--- map's answer: job text in, crossbar out.
+-- Document 01, "The services": map's outcome, job text in and crossbar out.
 use Prim.Native.Nat.{ℕ}
 use mathlib.Core.List.{List, [], _∷_}
 use lib.Dec.{ltb}

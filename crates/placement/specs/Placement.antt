@@ -1,7 +1,7 @@
 -- Document 01, "Placement": the cell at each place, and the record.
-use Prim.Native.Nat.{ℕ, _-_}
-use mathlib.Core.Bool.{Bool, true, false, _&&_}
-use mathlib.Core.List.{List, map, _++_}
+use Prim.Native.Nat.{ℕ}
+use mathlib.Core.Bool.{true, false, _&&_}
+use mathlib.Core.List.{List, map}
 use lib.ListN.{length, getD}
 use lib.Dec.{eqb, ltb}
 use Rattle.common.specs.Limits.{maxOutputs}
@@ -49,7 +49,7 @@ codeAt d r c = codeOf (meeting d (getD (rowOwners d) r 0) (getD (columnOwners d)
 unfoldable pub cells : Diagram → List ℕ
 cells d = grid (rowCount d) (columnCount d) (codeAt d)
 
--- "An output stands on the row of the id that its line names, or for id 0 on the last row without cells"
+-- "What an output reads": "An output stands on the row of the id that its line names, or for id 0 on the last row without cells"
 unfoldable pub outRow : Diagram → ℕ → ℕ
 outRow d i = elim (eqb i 0) [ true ↦ length (rowOwners d) | false ↦ rowOf d i ]
 

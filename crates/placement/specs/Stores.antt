@@ -6,14 +6,15 @@ use mathlib.Core.Bool.{Bool, true, false, not, _&&_}
 use mathlib.Core.List.{List, [], map}
 use lib.ListN.{length, getD, set}
 use lib.Dec.{eqb}
+use Rattle.common.specs.Labels.{labelB}
 use Rattle.common.specs.Limits.{maxSwitches, maxOutputs}
-use Rattle.common.specs.Lists.{bit, any-of, zeros, padded}
+use Rattle.common.specs.Lists.{bit, zeros, padded}
 use Rattle.cells.specs.declared.Cell.the-variants.{Yes, No}
 use Rattle.cells.specs.declared.Crossbar.{Crossbar}
 use Rattle.cells.specs.Code.{codeOf}
-use Rattle.diagram.specs.Diagram.{Diagram, labelB, labelAt}
+use Rattle.diagram.specs.Diagram.{Diagram, labelAt}
 use Rattle.diagram.specs.Stored.{stored}
-use Rattle.diagram.specs.Wires.{hasRow, hasColumn, rowOf, columnOf, columnCount}
+use Rattle.diagram.specs.Wires.{hasRow, hasColumn, rowOf, columnOf, columnCount, anyZero}
 
 -- the diagram of n labels and that of terminal 1
 unfoldable pub labels : ℕ → ℕ → List ℕ → Diagram
@@ -85,7 +86,7 @@ outRowIn rows height i = either (eqb i 0) height (getD rows i 0)
 unfoldable pub headFrom : List ℕ → ℕ → ℕ → ℕ → List ℕ → Crossbar
 headFrom rows height width v outs =
     record {
-      rows = height + bit (any-of (λ i. eqb i 0) outs);
+      rows = height + bit (anyZero outs);
       columns = width;
       switches = v;
       outputs = length outs;

@@ -1,17 +1,15 @@
 // The numbers of the wires, by id.
+use common::LABEL_B;
+use common::LABEL_H;
+use common::LABEL_V;
 use common::MAX_NODES;
-use diagram::LABEL_B;
-use diagram::LABEL_H;
-use diagram::LABEL_V;
 use diagram::entry::label_at;
 ghost use mathlib.Core.Path.{_≡_};
-ghost use mathlib.Core.Bool.{_||_};
 ghost use Prim.Native.Nat.{_+_, _≤_};
 ghost use lib.ListN.{length};
-ghost use lib.Dec.{eqb};
 ghost use Rattle.common.specs.Limits.{maxNodes};
-ghost use Rattle.diagram.specs.Diagram.{labelH, labelV, labelB};
-ghost use Rattle.diagram.specs.Wires.{rowOwners};
+ghost use Rattle.common.specs.Labels.{labelH, labelV};
+ghost use Rattle.diagram.specs.Wires.{labelHas, rowOwners};
 ghost use Rattle.placement.specs.Stores.{labels, Numbered};
 
 // The terminals and the most nodes.
@@ -27,14 +25,14 @@ pub struct Wires {
 
 // Labels `h` and `b` have a row.
 pub fn has_row(label: u16) -> bool
-    ensures { λ r. ⌜ r ≡ (eqb label labelH || eqb label labelB) ⌝ }
+    ensures { λ r. ⌜ r ≡ labelHas labelH label ⌝ }
 {
     label == LABEL_H || label == LABEL_B
 }
 
 // Labels `v` and `b` have a column.
 pub fn has_column(label: u16) -> bool
-    ensures { λ r. ⌜ r ≡ (eqb label labelV || eqb label labelB) ⌝ }
+    ensures { λ r. ⌜ r ≡ labelHas labelV label ⌝ }
 {
     label == LABEL_V || label == LABEL_B
 }

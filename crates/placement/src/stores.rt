@@ -3,9 +3,9 @@ use crate::numbers::MAX_IDS;
 use crate::numbers::has_column;
 use crate::numbers::has_row;
 use cells::Cell;
+use common::LABEL_B;
 use common::MAX_NODES;
 use common::clear;
-use diagram::LABEL_B;
 use diagram::entry::label_at;
 ghost use mathlib.Core.Path.{_≡_};
 ghost use mathlib.Core.Bool.{not};
@@ -13,7 +13,8 @@ ghost use Prim.Native.Nat.{_+_, _*_, _<_, _≤_};
 ghost use lib.ListN.{length};
 ghost use lib.Dec.{eqb};
 ghost use Rattle.common.specs.Limits.{maxNodes, maxSwitches};
-ghost use Rattle.diagram.specs.Diagram.{labelB, labelAt};
+ghost use Rattle.common.specs.Labels.{labelB};
+ghost use Rattle.diagram.specs.Diagram.{labelAt};
 ghost use Rattle.placement.specs.Stores.{labels, Numbered, edgePlace, edgeCode, ownPlace, put, withOn, withEdges, withAll, OnFits, EdgesFit};
 
 // Where the cell at a row and a column stands in the buffer.

@@ -9,7 +9,6 @@ use lib.Dec.{eqb}
 use borrow.Author.Tests.{eq-eqb, ne-eqb}
 use Rattle.common.specs.Limits.{maxOutputs}
 use Rattle.common.specs.Lists.{any-of}
-use Rattle.diagram.specs.Wires.{namesZero}
 use Rattle.diagram.proofs.Tables.{any-take-more, any-take-at}
 use Rattle.diagram.proofs.counts.names_zero.Statement.{statement}
 use Rattle.diagram.proofs.counts.names_zero.Tie as tie
@@ -33,14 +32,11 @@ unfolding maxOutputs
 element-copy-out-if1 c = search needs
 
 returns : tie.Need-returns Inv-loop μ-loop
-unfolding namesZero
 returns c =
-    λ d e.
     let at-loop = c .before .before .before in
     let a = at-loop .before .args in
     let met = eq-eqb _ 0 (c .if1 .taken) in
-    rw e
-    (sym (any-take-at (λ (i : ℕ). eqb i 0) (a .outs .now) (a .k) (at-loop .loop .j) (omega arith) (at-loop .before .pre .1) met))
+    sym (any-take-at (λ (i : ℕ). eqb i 0) (a .outs .now) (a .k) (at-loop .loop .j) (omega arith) (at-loop .before .pre .1) met)
 
 add-j : tie.Need-add-j Inv-loop μ-loop
 add-j c = omega arith
@@ -59,11 +55,9 @@ loop-again c =
     )
 
 returns-2 : tie.Need-returns-2 Inv-loop μ-loop
-unfolding namesZero
 returns-2 c =
-    λ d e.
     let all : c .before .loop .j ≡ c .before .before .args .k = omega arith in
-    rw e (sym (rw all at (c .before .loop .inv .1)))
+    sym (rw all at (c .before .loop .inv .1))
 
 pub names-zero-spec : {M : Type 1} → statement M
 names-zero-spec =

@@ -1,6 +1,6 @@
 -- `jobs::reading::read_text` meets its contract: after a refusal the entries are cleared. Assumes nothing.
 use Rattle.jobs.proofs.Whole.{refused-table, read-done}
-use Rattle.jobs.proofs.Entries.{text-held}
+use Rattle.jobs.proofs.Entries.{text-held, fields-hold}
 use borrow.Author.Needs.{needs}
 use Rattle.jobs.proofs.reading.read_text.Statement.{statement}
 use Rattle.jobs.proofs.reading.read_text.Tie as tie
@@ -22,7 +22,7 @@ returns-2 : tie.Need-returns-2
 returns-2 c =
     let read = c .before .before .before .read-lines .ensures in
     let found = read-done _ _ (read .answer) (c .if1 .left) in
-    text-held _ _ _ _ _ _ (read .answer) (read .held (found .0) (found .1))
+    text-held _ _ _ _ _ _ (read .answer) (fields-hold _ _ (read .held (found .0) (found .1)))
 
 pub read-text-spec : {M : Type 1} → statement M
 read-text-spec = tie.close (tie.spec read-lines-requires clear-table-requires returns returns-2)

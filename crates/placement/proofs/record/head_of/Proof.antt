@@ -9,7 +9,7 @@ use Rattle.common.specs.Limits.{maxNodes, maxOutputs}
 use Rattle.common.specs.Lists.{padded}
 use Rattle.placement.specs.Stores.{outRowIn}
 use Rattle.placement.proofs.Running.{byte-most}
-use Rattle.placement.proofs.Heads.{rows-more, names-any, head-from}
+use Rattle.placement.proofs.Heads.{rows-more, head-from}
 use Rattle.placement.proofs.record.head_of.Statement.{statement}
 use Rattle.placement.proofs.record.head_of.Tie as tie
 
@@ -85,7 +85,7 @@ returns c =
     let at-loop = c .before .before in
     let start = at-loop .before in
     let all : at-loop .loop .j ≡ start .args .k = omega arith in
-    head-from _ _ _ _ _ _ _ _ (start .pre .0 .1) (names-any _ _ (c .names-zero .ensures)) (at-loop .loop .inv .3 ∙ rw all)
+    head-from _ _ _ _ _ _ _ _ (start .pre .0 .1) (c .names-zero .ensures) (at-loop .loop .inv .3 ∙ rw all)
 
 pub head-of-spec : {M : Type 1} → statement M
 head-of-spec =
