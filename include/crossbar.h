@@ -1,10 +1,10 @@
 /*
- * The COMPACT crossbar mapper and its lamp test: map, walk, light, print and load on byte slices.
+ * The COMPACT crossbar mapper and the test of its crossbars: map, walk, light, print and load on byte slices.
  *
  * A slice is a pointer and then its length in bytes. A pointer may be NULL only where its length is 0. A call reads and writes
  * nothing outside its slices; an output slice must not overlap any other slice of the same call. No call allocates, keeps a
- * pointer, or has state of its own, so calls in several threads need no lock. CROSSBAR_STACK bytes of stack
- * were enough for every call at the largest sizes; that is measured by a test and not proved.
+ * pointer, or has state of its own, so calls in several threads need no lock. CROSSBAR_STACK bytes of stack are enough for every
+ * call at the largest sizes; that is measured by a test and not proved.
  *
  * Every call answers one number. Its highest byte is the refusal's number, 0 where nothing is refused; the rest is then the value
  * that the call's comment names, and after a refusal the line, 0 where the ground has none. After a refusal every output slice
@@ -44,14 +44,16 @@ extern "C" {
 #define CROSSBAR_OUT_OF_RANGE 2        /* a figure of the first line is outside its range */
 #define CROSSBAR_NOT_NEXT 3            /* a node's or an output's number is not the next in turn */
 #define CROSSBAR_SWITCH 4              /* a node's switch is not below V */
-#define CROSSBAR_CHILD 5               /* a child is not below its node, or an output names no id */
-#define CROSSBAR_ORDER 6               /* a child has a switch not above its parent's */
+#define CROSSBAR_CHILD 5               /* a child is not below its node, or an output names an id above N + 1 */
+#define CROSSBAR_ORDER 6               /* a child other than 0 and 1 has a switch not above its parent's */
 #define CROSSBAR_SAME_CHILDREN 7       /* both children are the same */
 #define CROSSBAR_DOUBLED 8             /* an earlier node has the same switch and children */
-#define CROSSBAR_LABEL 9               /* terminal 1 or an output's node is `v`, or a node and its child are alike */
+#define CROSSBAR_LABEL 9               /* terminal 1 or an output's node is `v`, or a node and a child other than 0 are both
+                                          `h` or both `v` */
 #define CROSSBAR_AFTER_END 10          /* bytes follow `(end)` */
 #define CROSSBAR_TOO_LARGE 11          /* more than 128 rows or columns */
-#define CROSSBAR_BAD_CROSSBAR 12       /* a cell, switch or output row out of place in a listing or a record */
+#define CROSSBAR_BAD_CROSSBAR 12       /* a listing's cell, switch or output row is out of place; in a record also a size, a
+                                          code, the length of a slice, a byte past the cells or an unused output row */
 #define CROSSBAR_SETTING 13            /* the setting is not V bytes of 0 or 1, or the output number is not below K */
 #define CROSSBAR_SHORT_BUFFER 14       /* an output slice is shorter than the answer */
 #define CROSSBAR_UNSETTLED 15          /* the light is not at rest after R + C - 1 rounds */

@@ -12,6 +12,7 @@ typedef char max_switches[CROSSBAR_MAX_SWITCHES == 64 ? 1 : -1];
 typedef char max_nodes[CROSSBAR_MAX_NODES == 254 ? 1 : -1];
 typedef char max_outputs[CROSSBAR_MAX_OUTPUTS == 32 ? 1 : -1];
 typedef char max_cells[CROSSBAR_MAX_CELLS == 16384 ? 1 : -1];
+typedef char max_listing[CROSSBAR_MAX_LISTING == 393728 ? 1 : -1];
 typedef char max_wires[CROSSBAR_MAX_WIRES == 256 ? 1 : -1];
 
 /* The numbers of document 01, in its order. */
