@@ -1,7 +1,7 @@
 -- Numbers as pairs of bytes: one number more in a buffer, and a record's bytes hold that record. Assumes nothing.
-use Prim.Native.Nat.{ℕ, zero, suc, _+_, _-_, _*_, _/_, _%_, _<_}
+use Prim.Native.Nat.{ℕ, zero, suc, _+_, _-_, _*_, _/_, _%_, _≤_, _<_}
 use mathlib.Core.Path.{_≡_, refl, sym, ap, _∙_}
-use mathlib.Core.List.{List, [], _∷_, _++_, append-assoc}
+use mathlib.Core.List.{List, [], _∷_, _++_, append-nil, append-assoc}
 use native.Mathlib.Omega.{arith}
 use native.Mathlib.Numerals.{add-one}
 use lib.ListN.{length, getD, take, set, length-append}
@@ -11,7 +11,7 @@ use Rattle.common.specs.Lists.{zeros, padded, tab}
 use Rattle.common.proofs.Lists.{length-tab, getD-tab}
 use Rattle.cells.specs.declared.Crossbar.{Crossbar}
 use Rattle.placement.proofs.Heads.{pad-more}
-use Rattle.crossbar.specs.Bytes.{numbersOf, pairs, recordBytes, numberAt, recordFrom}
+use Rattle.crossbar.specs.Bytes.{numbersOf, pairs, recordBytes, withNumber, withNumbers, numberAt, recordFrom}
 
 pub length-pairs : (ns : List ℕ) → length (pairs ns) ≡ 2 * length ns
 unfolding pairs
@@ -25,15 +25,50 @@ pairs-more (n ∷ ns) a = ap (λ (l : List ℕ). n % 256 ∷ n / 256 ∷ l) (pai
 
 -- one number more in a buffer that holds numbers
 pub number-more :
-    (n i a : ℕ) (ns : List ℕ)
+    (n i a : ℕ) (ns s : List ℕ)
     → length ns ≡ i
     → 2 * i + 1 < n
-    → set (set (padded n (pairs ns)) (2 * i) (a % 256)) (2 * i + 1) (a / 256) ≡ padded n (pairs (ns ++ (a ∷ [])))
-number-more n i a ns e h =
+    → s ≡ padded n (pairs ns)
+    → withNumber s i a ≡ padded n (pairs (ns ++ (a ∷ [])))
+number-more n i a ns s e h f =
     let long : 2 * i ≡ length (pairs ns) = rw length-pairs (omega arith) in
     let longer : 2 * i + 1 ≡ length (pairs ns ++ (a % 256 ∷ [])) = simp (length-append, length-pairs) (omega arith) in
-    rw (pad-more n (pairs ns) (a % 256) (2 * i) long (omega arith), pairs-more)
+    rw (f, pad-more n (pairs ns) (a % 256) (2 * i) long (omega arith), pairs-more)
     (pad-more n (pairs ns ++ (a % 256 ∷ [])) (a / 256) (2 * i + 1) longer h)
+
+-- numbers more
+pub numbers-more :
+    (n i : ℕ) (ms ns s : List ℕ)
+    → length ms ≡ i
+    → 2 * (i + length ns) ≤ n
+    → s ≡ padded n (pairs ms)
+    → withNumbers s i ns ≡ padded n (pairs (ms ++ ns))
+unfolding withNumbers
+numbers-more n i ms [] s e h f = f ∙ ap (λ (l : List ℕ). padded n (pairs l)) (sym (append-nil ms))
+numbers-more n i ms (a ∷ ns) s e h f =
+    let longer : length (ms ++ (a ∷ [])) ≡ i + 1 = simp length-append (omega arith) in
+    let next = number-more n i a ms s e (omega arith) f in
+    numbers-more n (i + 1) (ms ++ (a ∷ [])) ns (withNumber s i a) longer (omega arith) next
+    ∙ ap (λ (l : List ℕ). padded n (pairs l)) (append-assoc ms (a ∷ []) ns)
+
+-- the last of some numbers is put after the others
+numbers-last :
+    (s : List ℕ) (i : ℕ) (ns : List ℕ) (a : ℕ) → withNumbers s i (ns ++ (a ∷ [])) ≡ withNumber (withNumbers s i ns) (i + length ns) a
+unfolding withNumbers
+numbers-last s i [] a = let e : i + 0 ≡ i = omega arith in rw e
+numbers-last s i (n ∷ ns) a =
+    let e : i + length (n ∷ ns) ≡ i + 1 + length ns = omega arith in
+    rw e (numbers-last (withNumber s i n) (i + 1) ns a)
+
+-- the output rows are put one by one
+pub outs-more :
+    (s outs : List ℕ) (j : ℕ)
+    → j < length outs
+    → withNumber (withNumbers s 4 (take j outs)) (4 + j) (getD outs j 0) ≡ withNumbers s 4 (take (j + 1) outs)
+outs-more s outs j h =
+    let long : length (take j outs) ≡ j = length-take-le j outs (omega arith) in
+    let next : take (j + 1) outs ≡ take j outs ++ (getD outs j 0 ∷ []) = rw add-one (take-suc outs j 0 h) in
+    rw (next, numbers-last, long)
 
 -- a table with one entry more
 pub tab-more :
@@ -64,14 +99,7 @@ record-back x e =
     λ i. let four : 4 + i ≡ suc (suc (suc (suc i))) = omega arith in number-in ns (4 + i) ∙ rw four in
     rw (number-in ns 0, number-in ns 1, number-in ns 2, number-in ns 3, tab-is (λ i. numberAt (pairs ns) (4 + i)) (x .outs) maxOutputs e out-row)
 
--- a buffer of zeros holds no numbers, and the output rows are added one by one
+-- a buffer of zeros holds no numbers
 pub no-numbers : (m : ℕ) → zeros m ≡ padded m (pairs [])
 unfolding padded pairs
 no-numbers m = let e : m ≡ m - 0 = omega arith in ap zeros e
-
-pub outs-more :
-    (ns outs : List ℕ) (j : ℕ) → j < length outs → (ns ++ take j outs) ++ (getD outs j 0 ∷ []) ≡ ns ++ take (j + 1) outs
-outs-more ns outs j h = rw (append-assoc, add-one, take-suc outs j 0 h)
-
-pub length-outs : (ns outs : List ℕ) (j : ℕ) → length ns ≡ 4 → j < length outs → length (ns ++ take j outs) ≡ 4 + j
-length-outs ns outs j e h = simp (length-append, length-take-le j outs (omega arith)) (omega arith)

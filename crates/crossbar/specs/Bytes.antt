@@ -1,7 +1,7 @@
 -- The crossbar record as bytes: R, C, V, K and the 32 output rows, two bytes a number, low byte first.
 use Prim.Native.Nat.{ℕ, _+_, _*_, _/_, _%_}
 use mathlib.Core.List.{List, [], _∷_}
-use lib.ListN.{getD}
+use lib.ListN.{getD, set}
 use Rattle.common.specs.Limits.{maxOutputs}
 use Rattle.common.specs.Lists.{tab}
 use Rattle.cells.specs.declared.Crossbar.{Crossbar}
@@ -21,6 +21,15 @@ pairs (n ∷ ns) = n % 256 ∷ n / 256 ∷ pairs ns
 
 unfoldable pub recordBytes : Crossbar → List ℕ
 recordBytes x = pairs (numbersOf x)
+
+-- a buffer with the number n put at place i: these two bytes change and all others stay
+abbrev pub withNumber : List ℕ → ℕ → ℕ → List ℕ
+withNumber s i n = set (set s (2 * i) (n % 256)) (2 * i + 1) (n / 256)
+
+-- a buffer with numbers put at the places i, i + 1, .. in turn: all other bytes stay
+unfoldable pub withNumbers : List ℕ → ℕ → List ℕ → List ℕ
+withNumbers s i [] = s
+withNumbers s i (n ∷ ns) = withNumbers (withNumber s i n) (i + 1) ns
 
 -- number i of bytes
 unfoldable pub numberAt : List ℕ → ℕ → ℕ

@@ -2,11 +2,10 @@
 use cells::Crossbar;
 use common::MAX_OUTPUTS;
 ghost use mathlib.Core.Path.{_≡_};
-ghost use mathlib.Core.List.{List, [], _∷_, _++_};
-ghost use Prim.Native.Nat.{ℕ, _+_, _*_, _≤_, _<_};
+ghost use Prim.Native.Nat.{_+_, _*_, _≤_, _<_};
 ghost use lib.ListN.{length};
 ghost use Rattle.common.specs.Lists.{padded};
-ghost use Rattle.crossbar.specs.Bytes.{recordLength, pairs, recordBytes, numberAt, recordFrom};
+ghost use Rattle.crossbar.specs.Bytes.{recordLength, recordBytes, withNumber, withNumbers, numberAt, recordFrom};
 
 // How many bytes a record has.
 pub const RECORD_BYTES: usize = 2 * (4 + MAX_OUTPUTS);
@@ -39,29 +38,19 @@ pub fn read_record(s: &[u8]) -> Crossbar
     }
 }
 
-// One number more, past the i numbers that a buffer holds.
+// A number at place i of a buffer; all other bytes stay.
 fn put_number(out: &mut [u8], i: usize, n: u16)
     requires { ⌜ 2 * i + 1 < length (now out) ⌝ }
-    ensures { λ r.
-        ⌜ ((m : ℕ) (ns : List ℕ)
-        → length ns ≡ i
-        → 2 * i + 1 < m
-        → now (out .entry) ≡ padded m (pairs ns)
-        → now (out .exit) ≡ padded m (pairs (ns ++ (n ∷ [])))) ⌝ }
+    ensures { λ r. ⌜ now (out .exit) ≡ withNumber (now (out .entry)) i n ⌝ }
 {
     out[2 * i] = (n % 256) as u8;
     out[2 * i + 1] = (n / 256) as u8;
 }
 
-// The output rows, past the four numbers that a buffer holds.
+// The output rows from place 4 of a buffer on; all other bytes stay.
 fn put_outs(out: &mut [u8], outs: [u16; MAX_OUTPUTS])
     requires { ⌜ recordLength ≤ length (now out) ⌝ }
-    ensures { λ r.
-        ⌜ ((m : ℕ) (ns : List ℕ)
-        → length ns ≡ 4
-        → recordLength ≤ m
-        → now (out .entry) ≡ padded m (pairs ns)
-        → now (out .exit) ≡ padded m (pairs (ns ++ outs))) ⌝ }
+    ensures { λ r. ⌜ now (out .exit) ≡ withNumbers (now (out .entry)) 4 outs ⌝ }
 {
     let mut j = 0;
     while j < MAX_OUTPUTS {

@@ -1,9 +1,4 @@
 -- `crossbar::bytes::put_number` meets its contract. Assumes nothing.
-use Prim.Native.Nat.{ℕ, _+_, _*_, _/_, _%_}
-use mathlib.Core.Path.{ap, _∙_}
-use mathlib.Core.List.{List}
-use lib.ListN.{set}
-use Rattle.crossbar.proofs.Pairs.{number-more}
 use borrow.Author.Needs.{needs}
 use Rattle.crossbar.proofs.bytes.put_number.Statement.{statement}
 use Rattle.crossbar.proofs.bytes.put_number.Tie as tie
@@ -33,7 +28,7 @@ same-length : tie.Need-same-length
 same-length c = search needs
 
 returns : tie.Need-returns
-returns c m ns long room e = ap (λ (l : List ℕ). set (set l (2 * c .args .i) (c .args .n % 256)) (2 * c .args .i + 1) (c .args .n / 256)) e ∙ number-more m (c .args .i) (c .args .n) ns long room
+returns c = search needs
 
 pub put-number-spec : {M : Type 1} → statement M
 put-number-spec =

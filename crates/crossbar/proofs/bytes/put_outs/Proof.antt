@@ -1,15 +1,14 @@
 -- `crossbar::bytes::put_outs` meets its contract: before each output row those before it are in the buffer. Assumes nothing.
-use Prim.Native.Nat.{ℕ, _-_, _≤_, _<_}
-use mathlib.Core.Path.{_≡_, sym, ap, _∙_}
-use mathlib.Core.List.{List, _++_, append-nil}
+use Prim.Native.Nat.{ℕ, _+_, _-_, _≤_, _<_}
+use mathlib.Core.Path.{_≡_, refl, ap, _∙_}
+use mathlib.Core.List.{List}
 use native.Mathlib.Omega.{arith}
-use lib.ListN.{length, take}
+use lib.ListN.{length, getD, take}
 use lib.Seq.{take-all}
 use Rattle.common.specs.Limits.{maxOutputs}
-use Rattle.common.specs.Lists.{padded}
 use borrow.Author.Needs.{needs}
-use Rattle.crossbar.specs.Bytes.{recordLength, pairs}
-use Rattle.crossbar.proofs.Pairs.{outs-more, length-outs}
+use Rattle.crossbar.specs.Bytes.{recordLength, withNumber, withNumbers}
+use Rattle.crossbar.proofs.Pairs.{outs-more}
 use Rattle.crossbar.proofs.bytes.put_outs.Statement.{statement}
 use Rattle.crossbar.proofs.bytes.put_outs.Tie as tie
 
@@ -18,14 +17,14 @@ Inv-loop out₀ outs j₀ out j =
     (j ≤ 32)
     × (72 ≤ length out₀)
     × (length out ≡ length out₀)
-    × ((m : ℕ) (ns : List ℕ) → length ns ≡ 4 → 72 ≤ m → out₀ ≡ padded m (pairs ns) → out ≡ padded m (pairs (ns ++ take j outs)))
+    × (out ≡ withNumbers out₀ 4 (take j outs))
 
 abbrev μ-loop : tie.MeasureT-loop
 μ-loop out₀ outs j₀ out j = 32 - j
 
 loop-holds : tie.Need-loop-holds Inv-loop μ-loop
-unfolding recordLength maxOutputs
-loop-holds c = (omega arith, omega arith, omega arith, λ m ns long big e. e ∙ ap (λ (l : List ℕ). padded m (pairs l)) (sym (append-nil ns)))
+unfolding recordLength maxOutputs withNumbers
+loop-holds c = (omega arith, omega arith, omega arith, refl)
 
 add-put-number : tie.Need-add-put-number Inv-loop μ-loop
 add-put-number c = omega arith
@@ -54,10 +53,9 @@ loop-again c =
       omega arith,
       omega arith,
       omega arith,
-      λ m ns long big e.
-          c .before .before .put-number .ensures m (ns ++ take j outs) (length-outs ns outs j long within) (omega arith)
-          (at-loop .loop .inv .3 m ns long big e)
-          ∙ ap (λ (l : List ℕ). padded m (pairs l)) (outs-more ns outs j within),
+      c .before .before .put-number .ensures
+          ∙ ap (λ (l : List ℕ). withNumber l (4 + j) (getD outs j 0)) (at-loop .loop .inv .3)
+          ∙ outs-more (at-loop .before .before .args .out .now) outs j within,
     )
 
 same-length : tie.Need-same-length Inv-loop μ-loop
@@ -65,11 +63,11 @@ same-length c = search needs
 
 returns : tie.Need-returns Inv-loop μ-loop
 unfolding recordLength maxOutputs
-returns c m ns long big e =
+returns c =
     let at-loop = c .before in
     let outs = at-loop .before .before .args .t2 in
     let all : length outs ≤ at-loop .loop .j = omega arith in
-    at-loop .loop .inv .3 m ns long big e ∙ ap (λ (l : List ℕ). padded m (pairs (ns ++ l))) (take-all (at-loop .loop .j) outs all)
+    at-loop .loop .inv .3 ∙ ap (λ (l : List ℕ). withNumbers (at-loop .before .before .args .out .now) 4 l) (take-all (at-loop .loop .j) outs all)
 
 pub put-outs-spec : {M : Type 1} → statement M
 put-outs-spec =

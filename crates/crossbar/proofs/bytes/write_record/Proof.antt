@@ -1,12 +1,12 @@
 -- `crossbar::bytes::write_record` meets its contract: the numbers of the record go into a clear buffer in turn. Assumes nothing.
 use Prim.Native.Nat.{_≤_}
-use mathlib.Core.Path.{refl, _∙_}
+use mathlib.Core.Path.{_≡_, refl, sym, _∙_}
 use mathlib.Core.List.{[], _∷_}
 use native.Mathlib.Omega.{arith}
-use lib.ListN.{length}
+use lib.ListN.{length, length-map}
 use Rattle.common.specs.Limits.{maxOutputs}
 use Rattle.crossbar.specs.Bytes.{recordLength, numbersOf, recordBytes}
-use Rattle.crossbar.proofs.Pairs.{no-numbers}
+use Rattle.crossbar.proofs.Pairs.{number-more, numbers-more, no-numbers}
 use borrow.Author.Needs.{needs}
 use Rattle.crossbar.proofs.bytes.write_record.Statement.{statement}
 use Rattle.crossbar.proofs.bytes.write_record.Tie as tie
@@ -51,11 +51,17 @@ returns c =
     let m = length (start .args .out .now) in
     let big : 72 ≤ m = start .pre in
     let none = at-clear .clear .ensures ∙ no-numbers m in
-    let rows = at-1 .put-number .ensures m [] refl (omega arith) none in
-    let columns = at-2 .put-number2 .ensures m (x .rows ∷ []) refl (omega arith) rows in
-    let switches = at-3 .put-number3 .ensures m (x .rows ∷ x .columns ∷ []) refl (omega arith) columns in
-    let outputs = at-4 .put-number4 .ensures m (x .rows ∷ x .columns ∷ x .switches ∷ []) refl (omega arith) switches in
-    at-outs .put-outs .ensures m (x .rows ∷ x .columns ∷ x .switches ∷ x .outputs ∷ []) refl big outputs
+    let rows = at-1 .put-number .ensures ∙ number-more m 0 (x .rows) [] _ refl (omega arith) none in
+    let columns = at-2 .put-number2 .ensures ∙ number-more m 1 (x .columns) (x .rows ∷ []) _ refl (omega arith) rows in
+    let switches =
+    at-3 .put-number3 .ensures ∙ number-more m 2 (x .switches) (x .rows ∷ x .columns ∷ []) _ refl (omega arith) columns in
+    let four = x .rows ∷ x .columns ∷ x .switches ∷ x .outputs ∷ [] in
+    let outputs =
+    at-4 .put-number4 .ensures
+    ∙ number-more m 3 (x .outputs) (x .rows ∷ x .columns ∷ x .switches ∷ []) _ refl (omega arith) switches in
+    let count = start .good .1 .0 .1 .1 .1 .1 .1 .1 .0 .1 .0 .1 in
+    let long : length (x .outs) ≡ 32 = sym (length-map (x .outs) _) ∙ count in
+    at-outs .put-outs .ensures ∙ numbers-more m 4 four (x .outs) _ refl (omega arith) outputs
 
 pub write-record-spec : {M : Type 1} → statement M
 write-record-spec =
