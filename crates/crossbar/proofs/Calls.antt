@@ -1,5 +1,5 @@
 -- The calls of the host library: the answer and every byte lent, from what the calls beneath hand over. Assumes nothing.
-use Prim.Native.Nat.{ℕ, _*_, _^_, _≤_}
+use Prim.Native.Nat.{ℕ, _*_, _≤_}
 use mathlib.Core.Path.{_≡_, sym, ap}
 use mathlib.Core.List.{List}
 use lib.ListN.{length}
@@ -17,7 +17,7 @@ use Rattle.listings.specs.declared.printing.Printed.{Printed}
 use Rattle.listings.specs.Listing.{print}
 use Rattle.listings.specs.Printing.{printedOf, Answered}
 use Rattle.crossbar.specs.Bytes.{recordLength, recordFrom}
-use Rattle.crossbar.specs.Host.{packed, mostNumber, Numbered, answerOf, ofRecord, hostLight, hostPrint}
+use Rattle.crossbar.specs.Host.{numberUnit, packed, mostNumber, Numbered, answerOf, ofRecord, hostLight, hostPrint}
 use Rattle.crossbar.proofs.Numbers.{packed-is, number-most, light-numbered, print-numbered, walk-numbered}
 
 -- a call's answer and one buffer, for an outcome
@@ -42,7 +42,7 @@ own-length s rest h = rw (eq-eqb (length s) recordLength h)
 refused-12 :
     {A : Type 0} (value : A → ℕ) (bytes : A → List ℕ) (s : List ℕ) (rest : Outcome A) (room r : ℕ) (after : List ℕ)
     → (length s ≡ recordLength → ⊥)
-    → r ≡ 12 * 2 ^ 56
+    → r ≡ 12 * numberUnit
     → after ≡ zeros room
     → Given value bytes (ofRecord s rest) room r after
 unfolding packed bufferOf
@@ -51,7 +51,7 @@ refused-12 value bytes s rest room r after h e f = let g = other-length s rest h
 pub light-refused :
     (s cells setting before after : List ℕ) (r : ℕ)
     → (length s ≡ recordLength → ⊥)
-    → r ≡ 12 * 2 ^ 56
+    → r ≡ 12 * numberUnit
     → after ≡ zeros (length before)
     → Given (λ a. a .count) (λ a. a .wires) (hostLight s cells setting (length before)) (length before) r after
 unfolding hostLight
@@ -61,7 +61,7 @@ light-refused s cells setting before after r =
 pub print-refused :
     (s cells before after : List ℕ) (r : ℕ)
     → (length s ≡ recordLength → ⊥)
-    → r ≡ 12 * 2 ^ 56
+    → r ≡ 12 * numberUnit
     → after ≡ zeros (length before)
     → Given length (λ t. t) (hostPrint s cells (length before)) (length before) r after
 unfolding hostPrint

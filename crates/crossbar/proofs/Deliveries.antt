@@ -1,11 +1,11 @@
 -- What map and load hand over for a crossbar: a refusal from beneath, ground 14 on the record's buffer, or the record and the cells.
 -- Assumes nothing.
-use Prim.Native.Nat.{ℕ, _*_, _^_, _≤_, _<_}
+use Prim.Native.Nat.{ℕ, _*_, _≤_, _<_}
 use mathlib.Core.Path.{_≡_, ap, _∙_}
 use mathlib.Core.List.{List}
 use native.Mathlib.Omega.{arith}
 use lib.ListN.{length}
-use borrow.Author.Tests.{lt-ltb, le-ltb, ne-eqb}
+use borrow.Author.Tests.{lt-ltb, le-ltb}
 use Rattle.common.specs.declared.Refusal.{Refusal}
 use Rattle.common.specs.Lists.{zeros, padded}
 use Rattle.common.specs.Outcome.{Outcome, done, refused, _then_, lowest, unless, numberOf, lineOf, refusalOf, valueOf, bufferOf}
@@ -18,8 +18,8 @@ use Rattle.listings.specs.declared.loading.Loaded.{Loaded}
 use Rattle.listings.specs.Loading.{load}
 use Rattle.listings.specs.Loader.{loadedOf, Handed}
 use Rattle.crossbar.specs.Bytes.{recordLength, recordBytes}
-use Rattle.crossbar.specs.Host.{packed, mostNumber, Numbered, of-refused, answerOf, forRecord, cellsDue, recordBuffer, cellsBuffer, Delivered}
-use Rattle.crossbar.proofs.Numbers.{number-most, map-numbered, load-numbered}
+use Rattle.crossbar.specs.Host.{numberUnit, packed, mostNumber, Numbered, of-refused, answerOf, forRecord, cellsDue, recordBuffer, cellsBuffer, Delivered}
+use Rattle.crossbar.proofs.Numbers.{unless-some, number-most, map-numbered, load-numbered}
 
 -- the number of an outcome, from the refusal
 number-of : {A : Type 0} (refusal : Refusal) (o : Outcome A) → refusal ≡ refusalOf o → refusal .number ≡ numberOf o
@@ -41,17 +41,17 @@ module _ (refusal : Refusal) (x : Crossbar) (n m r : ℕ) (held head cells : Lis
   unfolding forRecord _then_ packed recordBuffer cellsBuffer bufferOf answerOf refusalOf numberOf lineOf
   delivered-refused (done w) some a z k p e b = absurd (some (number-of refusal (done w) e))
   delivered-refused (refused i l) some a z k p e b =
-      let other = ne-eqb (refusal .number) 0 some in
       let number = ap (λ (q : Refusal). q .number) e in
       let line = ap (λ (q : Refusal). q .line) e in
-      record { answer = a ∙ rw (other, answerOf) (rw (number, line)); record-bytes = z; cell-bytes = k ∙ b }
+      let other = ap (packed (λ v. v)) (unless-some (refusal .number) (refusal .line) (done 0) some) in
+      record { answer = a ∙ other ∙ rw (number, line); record-bytes = z; cell-bytes = k ∙ b }
 
   -- the record's buffer is too short
   pub delivered-short :
       (o : Outcome Whole)
       → refusal .number ≡ 0
       → n < recordLength
-      → r ≡ 14 * 2 ^ 56
+      → r ≡ 14 * numberUnit
       → head ≡ zeros n
       → cells ≡ zeros m
       → Numbered o

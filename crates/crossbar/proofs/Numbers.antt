@@ -1,13 +1,13 @@
 -- Every refusal's number is one of 1 to 15, for each of the outcomes that a call hands over; so the number, the line and the value of an
 -- outcome make its answer. Assumes nothing.
 use Prim.Native.Nat.{ℕ, zero, suc, _+_, _≤_}
-use mathlib.Core.Path.{_≡_, refl}
+use mathlib.Core.Path.{_≡_, refl, sym, ap}
 use mathlib.Core.Bool.{Bool, true, false, _&&_}
 use mathlib.Core.Option.{Option, some, none}
 use mathlib.Core.List.{List, [], _∷_}
 use native.Mathlib.Omega.{arith}
-use lib.Dec.{eqb, leb}
-use borrow.Author.Tests.{leb-true, ne-eqb}
+use lib.Dec.{leb}
+use borrow.Author.Tests.{leb-true}
 use Rattle.common.specs.Outcome.{Outcome, done, refused, _then_, Ground, _when_, lowest, unless, numberOf, lineOf, refusalOf, valueOf}
 use Rattle.common.proofs.Lists.{and-left, and-right}
 use Rattle.figures.specs.Line.{Lines, left, _⏎_, linesOf}
@@ -47,11 +47,17 @@ unfolding unless
 unless-numbered zero n rest h p = p
 unless-numbered (suc k) n rest h p = let low : 1 ≤ suc k = omega arith in of-refused low h
 
+-- a number other than 0 refuses
+pub unless-some : {A : Type 0} (k n : ℕ) (rest : Outcome A) → (k ≡ 0 → ⊥) → unless k n rest ≡ refused k n
+unfolding unless
+unless-some zero n rest h = absurd (h refl)
+unless-some (suc k) n rest h = refl
+
 -- the answer of an outcome, from what a call hands over
 pub packed-is : {A : Type 0} (value : A → ℕ) (o : Outcome A) → Numbered o → packed value o ≡ answerOf (refusalOf o) (valueOf 0 value o)
-unfolding packed answerOf refusalOf numberOf lineOf valueOf
+unfolding packed answerOf unless refusalOf numberOf lineOf valueOf
 packed-is value (done a) p = refl
-packed-is value (refused k n) (of-refused low high) = let e : eqb k 0 ≡ false = ne-eqb k 0 (λ z. omega arith) in rw (e, answerOf)
+packed-is value (refused k n) (of-refused low high) = sym (ap (packed (λ v. v)) (unless-some k n (done 0) (λ z. omega arith)))
 
 pub number-most : {A : Type 0} (o : Outcome A) → Numbered o → refusalOf o .number ≤ mostNumber
 unfolding refusalOf numberOf mostNumber

@@ -1,5 +1,5 @@
 -- The parts of an answer are read back, for each call: its values and its lines are far below 2 to the 56th. Assumes nothing.
-use Prim.Native.Nat.{ℕ, _+_, _-_, _*_, _/_, _%_, _^_, _≤_, _<_}
+use Prim.Native.Nat.{ℕ, _+_, _-_, _*_, _/_, _%_, _≤_, _<_}
 use mathlib.Core.Path.{_≡_, refl, ap, _∙_}
 use mathlib.Core.List.{List}
 use native.Mathlib.Omega.{arith}
@@ -8,7 +8,7 @@ use Rattle.common.specs.Limits.{maxRows, maxColumns, maxText}
 use Rattle.common.specs.Outcome.{Outcome, done, refused, numberOf}
 use Rattle.cells.specs.Record.{Whole}
 use Rattle.jobs.specs.Job.{walk}
-use Rattle.crossbar.specs.Host.{packed, mostNumber, Numbered, of-done, of-refused, cellsDue, forRecord, hostMap, hostLoad, ofRecord, hostLight, hostPrint}
+use Rattle.crossbar.specs.Host.{numberUnit, packed, mostNumber, Numbered, of-done, of-refused, cellsDue, forRecord, hostMap, hostLoad, ofRecord, hostLight, hostPrint}
 use Rattle.crossbar.specs.Parts.{numberPart, lowPart, Parts, CallsRead}
 use Rattle.crossbar.proofs.Numbers.{within, lowest-within, then-numbered, unless-numbered, map-numbered, walk-numbered, light-numbered, print-numbered, load-numbered}
 use Rattle.crossbar.proofs.Ends.{Ends, ends-done, ends-refused, mostLine, map-ends, walk-ends, light-ends, print-ends, load-ends}
@@ -16,15 +16,15 @@ use Rattle.crossbar.proofs.Ends.{Ends, ends-done, ends-refused, mostLin
 -- where values up to `most` and lines up to b are below 2 to the 56th, an outcome is read back from its answer
 pub parts :
     {A : Type 0} (value : A → ℕ) (most b : ℕ) (o : Outcome A)
-    → most < 2 ^ 56
-    → b < 2 ^ 56
+    → most < numberUnit
+    → b < numberUnit
     → Numbered o
     → Ends (λ a. value a ≤ most) b o
     → Parts value most o
 unfolding packed numberPart lowPart numberOf
 parts value most b (done a) small short p (ends-done m) =
-    let zero-is : value a / 2 ^ 56 ≡ 0 = omega arith in
-    let all-is : value a % 2 ^ 56 ≡ value a = omega arith in
+    let zero-is : value a / numberUnit ≡ 0 = omega arith in
+    let all-is : value a % numberUnit ≡ value a = omega arith in
     record {
       number = zero-is;
       none-refused = ((λ e. (a, refl)), (λ h. zero-is));
@@ -33,8 +33,8 @@ parts value most b (done a) small short p (ends-done m) =
       line-low = λ k n e. absurd (let z : _≡_ {A = ℕ} 0 1 = cc in omega arith);
     }
 parts value most b (refused k n) small short (of-refused low high) (ends-refused l) =
-    let number-is : (k * 2 ^ 56 + n) / 2 ^ 56 ≡ k = omega arith in
-    let line-is : (k * 2 ^ 56 + n) % 2 ^ 56 ≡ n = omega arith in
+    let number-is : (k * numberUnit + n) / numberUnit ≡ k = omega arith in
+    let line-is : (k * numberUnit + n) % numberUnit ≡ n = omega arith in
     record {
       number = number-is;
       none-refused = ((λ e. absurd (omega arith)), (λ h. absurd (let e = h .1 in let z : _≡_ {A = ℕ} 0 1 = cc in omega arith)));

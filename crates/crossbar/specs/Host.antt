@@ -1,8 +1,9 @@
--- The five calls as the buyer's C program meets them, on numbers and byte slices. Each answers one number: the refusal's number times
--- 2 to the 56th, plus the line; or, where nothing is refused, the call's value. Parts.antt says that these are read back from it.
+-- The five calls of the host library. Document 01, "The services": "The same calls are offered to the buyer's host program, written in
+-- C, on numbers and byte slices." Each answers one number: the refusal's number times 2 to the 56th, plus the line; or, where nothing is
+-- refused, the call's value. Parts.antt says that these are read back from it.
 use Prim.Native.Nat.{ℕ, _+_, _*_, _^_, _≤_}
 use mathlib.Core.Path.{_≡_}
-use mathlib.Core.Bool.{true, false, not}
+use mathlib.Core.Bool.{not}
 use mathlib.Core.List.{List, [], _∷_}
 use lib.ListN.{length}
 use lib.Dec.{eqb, ltb}
@@ -15,10 +16,14 @@ use Rattle.listings.specs.Listing.{print}
 use Rattle.listings.specs.Loading.{load}
 use Rattle.crossbar.specs.Bytes.{recordLength, recordBytes, recordFrom}
 
+-- what the number of a refusal counts for in an answer: the highest of its 8 bytes counts these
+abbrev pub numberUnit : ℕ
+numberUnit = 2 ^ 56
+
 -- one number for an outcome, by the value of what is done
 unfoldable pub packed : {A : Type 0} → (A → ℕ) → Outcome A → ℕ
 packed value (done a) = value a
-packed value (refused k n) = k * 2 ^ 56 + n
+packed value (refused k n) = k * numberUnit + n
 
 -- the largest number of a refusal
 unfoldable pub mostNumber : ℕ
@@ -29,9 +34,9 @@ pub data Numbered {A : Type 0} : Outcome A → Type 0 where
   of-done : (a : A) → Numbered (done a)
   of-refused : {k n : ℕ} → 1 ≤ k → k ≤ mostNumber → Numbered (refused k n)
 
--- the same number from the refusal and the value that a call hands over
+-- the same number from the refusal, whose number is 0 where nothing is refused, and the value that a call hands over
 unfoldable pub answerOf : Refusal → ℕ → ℕ
-answerOf r value = elim (eqb (r .number) 0) [ true ↦ value | false ↦ r .number * 2 ^ 56 + r .line ]
+answerOf r value = packed (λ v. v) (unless (r .number) (r .line) (done value))
 
 -- a crossbar for two buffers: ground 14 also where the record's is shorter than a record, line 0
 unfoldable pub forRecord : ℕ → Outcome Whole → Outcome Whole

@@ -1,7 +1,7 @@
 -- The two parts of a call's answer, as CROSSBAR_NUMBER, CROSSBAR_VALUE and CROSSBAR_LINE of include/crossbar.h take them out of its 64
 -- bits. No value and no line reaches the highest byte, so that none is taken for the number of a refusal. By its contract the answer of
 -- each call is `packed` of the outcome that is named here. The proof is `calls-read` in proofs/Parts.antt: CallsRead.
-use Prim.Native.Nat.{ℕ, _+_, _-_, _*_, _/_, _%_, _^_, _≤_}
+use Prim.Native.Nat.{ℕ, _+_, _-_, _*_, _/_, _%_, _≤_}
 use mathlib.Core.Path.{_≡_}
 use mathlib.Core.Logic.{_↔_}
 use mathlib.Core.List.{List}
@@ -9,15 +9,15 @@ use lib.ListN.{length}
 use Rattle.common.specs.Limits.{maxRows, maxColumns, maxText}
 use Rattle.common.specs.Outcome.{Outcome, done, refused, numberOf}
 use Rattle.jobs.specs.Job.{walk}
-use Rattle.crossbar.specs.Host.{packed, cellsDue, hostMap, hostLoad, hostLight, hostPrint}
+use Rattle.crossbar.specs.Host.{numberUnit, packed, cellsDue, hostMap, hostLoad, hostLight, hostPrint}
 
 -- CROSSBAR_NUMBER: the highest byte
 unfoldable pub numberPart : ℕ → ℕ
-numberPart answer = answer / 2 ^ 56
+numberPart answer = answer / numberUnit
 
 -- CROSSBAR_VALUE and CROSSBAR_LINE: the 56 bits below it
 unfoldable pub lowPart : ℕ → ℕ
-lowPart answer = answer % 2 ^ 56
+lowPart answer = answer % numberUnit
 
 -- an outcome is read back from its answer: the refusal's number, which is 0 exactly when nothing is refused; then the value, which is at
 -- most this number, or else the refusal's line

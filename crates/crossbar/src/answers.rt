@@ -5,12 +5,12 @@ use cells::Crossbar;
 use common::Refusal;
 use common::clear;
 ghost use mathlib.Core.Path.{_≡_};
-ghost use Prim.Native.Nat.{ℕ, _+_, _*_, _^_, _≤_};
+ghost use Prim.Native.Nat.{ℕ, _+_, _*_, _≤_};
 ghost use lib.ListN.{length};
 ghost use Rattle.common.specs.Lists.{zeros};
 ghost use Rattle.common.specs.Outcome.{Outcome, refusalOf, valueOf};
 ghost use Rattle.cells.specs.Record.{Whole, no-record};
-ghost use Rattle.crossbar.specs.Host.{mostNumber, Numbered, answerOf, forRecord, cellsBuffer, Delivered};
+ghost use Rattle.crossbar.specs.Host.{numberUnit, mostNumber, Numbered, answerOf, forRecord, cellsBuffer, Delivered};
 
 // What the number of a refusal counts for in an answer: 2 to the 56th.
 const NUMBER_UNIT: u64 = 72057594037927936;
@@ -29,7 +29,7 @@ pub fn pack(refusal: Refusal, value: u64) -> u64
 // A refusal by a number, line 0: the answer, and zeros in the whole buffer.
 pub fn refuse(out: &mut [u8], number: u32) -> u64
     requires { ⌜ number ≤ mostNumber ⌝ }
-    ensures { λ r. ⌜ (r ≡ number * 2 ^ 56) × (now (out .exit) ≡ zeros (length (now (out .entry)))) ⌝ }
+    ensures { λ r. ⌜ (r ≡ number * numberUnit) × (now (out .exit) ≡ zeros (length (now (out .entry)))) ⌝ }
 {
     clear(out);
     (number as u64) * NUMBER_UNIT
