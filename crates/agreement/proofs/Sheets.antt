@@ -1,13 +1,23 @@
 -- The starred sheets of document 01 hold of the definitions, and demand 3 speaks of sheet A: each entry's two sides are computed and
 -- compared. Assumes nothing.
 use mathlib.Core.Path.{_≡_, refl}
-use mathlib.Core.List.{List, [], _∷_, map}
+use mathlib.Core.List.{[], _∷_, map}
 use Rattle.common.specs.Outcome.{done}
 use Rattle.diagram.specs.Diagram.{Diagram}
 use Rattle.jobs.specs.Job.{accepted}
 use Rattle.agreement.specs.Demand3.{Demand3}
-use Rattle.agreement.specs.Sheets.{Sheet, numbers, refusal, lamp, jobA, diagramA, listingA, jobE, jobF, jobG, listingH, sheets}
+use Rattle.agreement.specs.Sheets.{Sheet, numbers, refusal, lamp, jobA, listingA, jobE, jobF, jobG, listingH, sheets}
 use Rattle.agreement.proofs.Demand3.{demand-3}
+
+-- sheet A as a diagram
+unfoldable pub diagramA : Diagram
+diagramA =
+    record {
+      switches = 2;
+      one = 1;
+      nodes = record { x = 1; l = 0; h = 1; t = 2 } ∷ record { x = 0; l = 0; h = 2; t = 1 } ∷ [];
+      outs = 3 ∷ [];
+    }
 
 -- every definition between a text and what is printed is opened, so that all sides compute
 computed :

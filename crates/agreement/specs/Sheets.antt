@@ -9,7 +9,6 @@ use Rattle.figures.specs.Bytes.{bytes}
 use Rattle.cells.specs.declared.Cell.the-variants.{On, Yes, No}
 use Rattle.cells.specs.Code.{codeOf}
 use Rattle.cells.specs.Record.{Whole}
-use Rattle.diagram.specs.Diagram.{Diagram}
 use Rattle.conduction.specs.Light.{light}
 use Rattle.placement.specs.Map.{mapJob}
 use Rattle.listings.specs.Loading.{load}
@@ -35,16 +34,6 @@ lamp setting o =
 
 unfoldable pub jobA : List ℕ
 jobA = bytes "(job 2 2 1)\n(one h)\n(node 2 1 (0 1) v)\n(node 3 0 (0 2) h)\n(out 0 3)\n(end)\n"
-
--- sheet A as a diagram
-unfoldable pub diagramA : Diagram
-diagramA =
-    record {
-      switches = 2;
-      one = 1;
-      nodes = record { x = 1; l = 0; h = 1; t = 2 } ∷ record { x = 0; l = 0; h = 2; t = 1 } ∷ [];
-      outs = 3 ∷ [];
-    }
 
 unfoldable pub listingA : List ℕ
 listingA = bytes "(crossbar 2 1 2 1)\n(cell 0 0 (yes 1))\n(cell 1 0 (yes 0))\n(out 0 1)\n(end)\n"

@@ -2,10 +2,9 @@
 -- Assumes nothing.
 use Prim.Native.Nat.{ℕ, _+_, _-_, _≤_, _<_}
 use mathlib.Core.Path.{_≡_, refl}
-use mathlib.Core.Logic.{_⊎_, ⊎-elim, _↔_}
+use mathlib.Core.Logic.{⊎-elim}
 use mathlib.Core.Bool.{Bool, true, false, not}
 use mathlib.Core.List.{List, [], _∷_}
-use lib.ListN.{length, getD}
 use lib.Dec.{leb, ltb}
 use borrow.Author.Tests.{leb-true, ltb-false, le-ltb, not-false}
 use Rattle.common.specs.Outcome.{Outcome, done, Ground, _when_, lowest, unless}
@@ -15,8 +14,9 @@ use Rattle.cells.specs.declared.Crossbar.{Crossbar}
 use Rattle.cells.specs.Record.{inRange, sound}
 use Rattle.cells.specs.Setting.{isSetting}
 use Rattle.conduction.specs.Round.{rounds, roundCount, atRest}
-use Rattle.conduction.specs.Chain.{Wire, Chain, place, Within}
+use Rattle.conduction.specs.Chain.{place}
 use Rattle.conduction.specs.Light.{Lit, joined, litBy, light}
+use Rattle.conduction.specs.Lit.{Answer, Lights}
 use Rattle.conduction.proofs.Rounds.{lit-one, one-lit, length-rounds, rounds-bits}
 use Rattle.conduction.proofs.Chains.{lit-chain, chain-lit}
 use Rattle.conduction.proofs.Settles.{settles}
@@ -30,23 +30,6 @@ sound-row x cells h =
     (λ (p : leb 1 (x .rows) ≡ true). leb-true 1 (x .rows) p)
     (λ (p : leb 1 (x .rows) ≡ false). absurd (true-or-false false (rw (p, sound, inRange) at h) refl))
     (by-test (leb 1 (x .rows)))
-
--- an answer's count and wires, for m rows, n columns and the cells that conduct
-pub record Answer (m n : ℕ) (j : ℕ → ℕ → Bool) (a : Lit) : Type 0 where
-  pub rests : atRest m n j (a .count) ≡ true
-  pub least : (t : ℕ) → t < a .count → atRest m n j t ≡ false
-  pub at-most : a .count ≤ m + n - 1
-  pub sets : a .wires ≡ rounds m n j (a .count)
-  pub size : length (a .wires) ≡ m + n
-  pub bits : (i : ℕ) → (getD (a .wires) i 0 ≡ 0) ⊎ (getD (a .wires) i 0 ≡ 1)
-  pub chains : (w : Wire) → Within m n w → (getD (a .wires) (place m w) 0 ≡ 1) ↔ Chain m n j w
-
--- what light's answer says of the record, the setting and the room it was given, and of itself
-pub record Lights (x : Crossbar) (cells setting : List ℕ) (room : ℕ) (a : Lit) : Type 0 where
-  pub record-sound : sound x cells ≡ true
-  pub setting-fits : isSetting (x .switches) setting ≡ true
-  pub wires-fit : x .rows + x .columns ≤ room
-  pub answer : Answer (x .rows) (x .columns) (joined x cells setting) a
 
 -- the rounds from row 0, where there is one, answer so
 pub rounds-answer :
