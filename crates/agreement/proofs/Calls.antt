@@ -35,12 +35,12 @@ module _
     (text before cells : List ℕ)
     (d : Diagram)
     (m : Mapped)
-    (setting dark wires : List ℕ)
+    (setting buffer wires : List ℕ)
     (l : Lighted)
     (j : ℕ)
     (v : Walked)
     (taken : accepted text ≡ done d)
-    (ran : Ran text before cells d m setting dark wires l j v)
+    (ran : Ran text before cells d m setting buffer wires l j v)
   where
     abbrev claim : Demand3 text d
     claim = demand-3 text d taken
@@ -53,7 +53,7 @@ module _
     agree-by =
         let w = claim .whole in
         let room : size (w .head) ≤ length before = rw head-placed (ran .room) in
-        let wire-room : w .head .rows + w .head .columns ≤ length dark = rw head-placed (ran .wire-room) in
+        let wire-room : w .head .rows + w .head .columns ≤ length buffer = rw head-placed (ran .wire-room) in
         let set = ran .set in
         let below = ran .below in
         let m-is : m ≡ record { refusal = record { number = 0; line = 0 }; head = w .head } =
@@ -61,16 +61,16 @@ module _
         let cells-are : cells ≡ padded (length before) (w .codes) =
         ran .map-kept .cells ∙ ap (bufferOf (length before) (λ (x : Whole). x .codes)) (claim .maps (length before) room) in
         let head-is : m .head ≡ w .head = ap (λ (x : Mapped). x .head) m-is in
-        let runs = claim .lights setting (length before) (length dark) room set wire-room in
+        let runs = claim .lights setting (length before) (length buffer) room set wire-room in
         let a = runs .0 in
-        let light-is : light (m .head) cells setting (length dark) ≡ done a =
-        ap (λ (x : Crossbar). light x cells setting (length dark)) head-is
-        ∙ ap (λ (c : List ℕ). light (w .head) c setting (length dark)) cells-are
+        let light-is : light (m .head) cells setting (length buffer) ≡ done a =
+        ap (λ (x : Crossbar). light x cells setting (length buffer)) head-is
+        ∙ ap (λ (c : List ℕ). light (w .head) c setting (length buffer)) cells-are
         ∙ runs .1 in
         let l-is : l ≡ record { refusal = record { number = 0; line = 0 }; rounds = a .count } =
         ran .light-kept .answer ∙ ap lighted light-is in
-        let wires-are : wires ≡ padded (length dark) (a .wires) =
-        ran .light-kept .bytes ∙ ap (bufferOf (length dark) (λ (x : Lit). x .wires)) light-is in
+        let wires-are : wires ≡ padded (length buffer) (a .wires) =
+        ran .light-kept .bytes ∙ ap (bufferOf (length buffer) (λ (x : Lit). x .wires)) light-is in
         let walking = claim .walks setting j set below in
         let v-is : v ≡ record { refusal = record { number = 0; line = 0 }; value = walking .0 } =
         ran .walk-kept ∙ ap walked (walking .1) in
@@ -78,7 +78,7 @@ module _
         let row-byte : getD wires (getD (m .head .outs) j 0) 0 ≡ getD (a .wires) (standsOn w j) 0 =
         ap (λ (x : Crossbar). getD wires (getD (x .outs) j 0) 0) head-is
         ∙ ap (λ (q : List ℕ). getD q (standsOn w j) 0) wires-are
-        ∙ getD-padded-any (length dark) (a .wires) (standsOn w j) in
+        ∙ getD-padded-any (length buffer) (a .wires) (standsOn w j) in
         record {
           mapped-all = ap (λ (x : Mapped). x .refusal .number) m-is;
           lit-all = ap (λ (x : Lighted). x .refusal .number) l-is;
@@ -86,10 +86,19 @@ module _
           shown =
               rw row-byte
               (answers-same (getD (a .wires) (standsOn w j) 0) (Reads w setting j) (WalksToOne d setting j) read
-              (claim .shown setting (length before) (length dark) a j room (runs .1) below));
+              (claim .shown setting (length before) (length buffer) a j room (runs .1) below));
           walk-shown =
               rw (ap (λ (x : Walked). x .value) v-is)
               (answers-same (walking .0) (Reads w setting j) (WalksToOne d setting j) read (claim .walked setting j (walking .0) (walking .1)));
+          reading =
+              subst
+              (λ (x : Whole).
+              (other : List ℕ) (i : ℕ)
+              → isSetting (d .switches) other ≡ true
+              → i < length (d .outs)
+              → Reads x other i ↔ WalksToOne d other i)
+              (claim .placed)
+              (claim .reading);
           one-row = λ i within. subst (λ (x : Crossbar). ((other : List ℕ) → isSetting (d .switches) other ≡ true → WalksToOne d other i ↔ WalksToOne d other j) ↔ (getD (x .outs) i 0 ≡ getD (x .outs) j 0)) (sym head-is) (walks-row i within);
         }
       where
@@ -110,8 +119,8 @@ module _
             )
 
 pub calls-agree :
-    (text before cells : List ℕ) (d : Diagram) (m : Mapped) (setting dark wires : List ℕ) (l : Lighted) (j : ℕ) (v : Walked)
-    → Ran text before cells d m setting dark wires l j v
+    (text before cells : List ℕ) (d : Diagram) (m : Mapped) (setting buffer wires : List ℕ) (l : Lighted) (j : ℕ) (v : Walked)
+    → Ran text before cells d m setting buffer wires l j v
     → CallsAgree d m setting wires l j v
-calls-agree text before cells d m setting dark wires l j v ran =
-    agree-by text before cells d m setting dark wires l j v (ran .taken) ran
+calls-agree text before cells d m setting buffer wires l j v ran =
+    agree-by text before cells d m setting buffer wires l j v (ran .taken) ran
