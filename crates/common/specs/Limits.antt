@@ -1,5 +1,5 @@
--- The limits of document 01, each named here and nowhere else in a definition.
-use Prim.Native.Nat.{ℕ}
+-- The limits of document 01, each named here and nowhere else in a definition, and at the end one bound that follows from them.
+use Prim.Native.Nat.{ℕ, _+_, _*_}
 
 -- "Listing": R is 1 to 128, C is 0 to 128; ground 11
 unfoldable pub maxRows : ℕ
@@ -22,7 +22,7 @@ maxOutputs = 32
 unfoldable pub maxInput : ℕ
 maxInput = 65535
 
--- the most bytes that a program prints, reckoned from the limits above: a cell's line has at most 24 bytes, there are at most 128 · 128 cells, and the other
--- lines have fewer than 512 bytes.
+-- no limit of document 01, but bytes that are always enough for a listing and for what a program prints: a cell's line has at most 24
+-- bytes, and the other lines have fewer than 512
 unfoldable pub maxText : ℕ
-maxText = 393728
+maxText = 24 * maxRows * maxColumns + 512

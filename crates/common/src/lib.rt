@@ -15,8 +15,8 @@ pub const MAX_NODES: usize = 254;
 pub const MAX_OUTPUTS: usize = 32;
 // Document 01, "Two programs": the most bytes of an input.
 pub const MAX_INPUT: usize = 65535;
-// The most bytes that a program prints, reckoned from the limits above.
-pub const MAX_TEXT: usize = 393728;
+// Bytes that are always enough for a listing and for what a program prints, reckoned from the limits above.
+pub const MAX_TEXT: usize = 24 * MAX_ROWS * MAX_COLUMNS + 512;
 
 // Document 01, "Job text": "T (1 for `h`, 2 for `v`, 3 for `b`)".
 pub const LABEL_H: u16 = 1;

@@ -48,7 +48,7 @@ reads-lines-most wires j (r ∷ rows) =
 
 -- the readings of a crossbar with at most 32 outputs
 pub readings-most : (x : Crossbar) (a : Lit) → x .outputs ≤ maxOutputs → length (readings x a) ≤ maxText
-unfolding readings maxText maxOutputs
+unfolding readings maxText maxRows maxColumns maxOutputs
 readings-most x a h =
     let few : length (take (x .outputs) (x .outs)) ≤ x .outputs = simp length-take (omega arith) in
     let head = rounds-most (a .count) in
@@ -57,7 +57,7 @@ readings-most x a h =
 
 -- a refusal, or a text that is done
 printed-most : (o : Outcome (List ℕ)) → ((t : List ℕ) → o ≡ done t → length t ≤ maxText) → length (printed o) ≤ maxText
-unfolding printed maxText
+unfolding printed maxText maxRows maxColumns
 printed-most (done t) h = h t refl
 printed-most (refused k n) h = omega (arith, refused-most k n)
 

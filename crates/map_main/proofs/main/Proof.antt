@@ -1,7 +1,7 @@
 -- `map_main::main` meets its contract: the text handed over lies in the buffer, and it is the text for the input. Assumes nothing.
 use mathlib.Core.Path.{sym}
 use lib.Seq.{length-take-le}
-use Rattle.common.specs.Limits.{maxText}
+use Rattle.common.specs.Limits.{maxRows, maxColumns, maxText}
 use Rattle.programs.proofs.Bounds.{map-whole, zeros-hold}
 use Rattle.programs.proofs.Texts.{said-within, said-whole}
 use borrow.Author.Needs.{needs}
@@ -44,7 +44,7 @@ slice-aggregate-write-2 c =
     sym (length-take-le _ _ (said-within _ _ _ _ (c .before .before .before .map-text .ensures)))
 
 write-requires : tie.Need-write-requires
-unfolding maxText
+unfolding maxText maxRows maxColumns
 write-requires c κs =
     said-whole _ _ _ _ (map-whole _ _ zeros-hold) (c .before .before .before .map-text .ensures)
 
