@@ -27,7 +27,7 @@ use Rattle.forms.specs.declared.Form.{Form}
 use Rattle.forms.specs.declared.Form.the-variants as form
 use Rattle.forms.specs.Template.{Template, word, figure, label, values}
 use Rattle.forms.specs.Forms.{jobForm, oneForm, nodeForm, outForm, endForm, crossbarForm, onForm, yesForm, noForm}
-use Rattle.forms.specs.Pattern.{isItem, valuesBy, refusedValues, handed, answerOf}
+use Rattle.forms.specs.Pattern.{isItem, valuesBy, maxValues, refusedValues, handed, answerOf}
 use Rattle.forms.specs.Form.{placed, switchOf, jobOf, oneOf, nodeOf, outOf, endOf, sizeOf, onOf, yesOf, noOf, notDue, either, cellLine, formOf}
 use Rattle.forms.proofs.Sorts.{cappedCell, capped, kindOf, valuesIn, ofKind, asJob, asOne, asNode, asOut, asEnd, asSize, asCell}
 use Rattle.forms.proofs.Form.{the-type}
@@ -64,14 +64,14 @@ exact k vs h =
 
 -- what was answered for a line under a template of at most five values
 pub record Answer (t : Template) (l : List ℕ) (r : Values) : Type 0 where
-  pub few : leb (places t) 5 ≡ true
+  pub few : leb (places t) maxValues ≡ true
   pub is : r ≡ answerOf (values t l)
 
 -- a template is given to the reader as its pattern
 answered :
     (t : Template) (p : List ℕ)
     → plain t ≡ true
-    → leb (places t) 5 ≡ true
+    → leb (places t) maxValues ≡ true
     → patternOf t ≡ p
     → (l : List ℕ) (r : Values)
     → r ≡ answerOf (valuesBy p l)
@@ -120,32 +120,32 @@ getD-zeros zero k = refl
 getD-zeros (suc m) zero = refl
 getD-zeros (suc m) (suc k) = getD-zeros m k
 
-getD-pad-past : (vs : List ℕ) (i : ℕ) → length vs ≤ i → getD (padded 5 vs) i 0 ≡ 0
+getD-pad-past : (vs : List ℕ) (i : ℕ) → length vs ≤ i → getD (padded maxValues vs) i 0 ≡ 0
 unfolding padded
 getD-pad-past vs i h =
     let e : i ≡ length vs + (i - length vs) = omega arith in
-    ap (λ (k : ℕ). getD (padded 5 vs) k 0) e
-    ∙ getD-append-add vs (zeros (5 - length vs)) (i - length vs) 0
-    ∙ getD-zeros (5 - length vs) (i - length vs)
+    ap (λ (k : ℕ). getD (padded maxValues vs) k 0) e
+    ∙ getD-append-add vs (zeros (maxValues - length vs)) (i - length vs) 0
+    ∙ getD-zeros (maxValues - length vs) (i - length vs)
 
-getD-pad : (vs : List ℕ) (i : ℕ) → getD (padded 5 vs) i 0 ≡ getD vs i 0
+getD-pad : (vs : List ℕ) (i : ℕ) → getD (padded maxValues vs) i 0 ≡ getD vs i 0
 getD-pad vs i =
-    ⊎-elim (λ (h : i < length vs). getD-padded 5 vs i 0 h)
+    ⊎-elim (λ (h : i < length vs). getD-padded maxValues vs i 0 h)
     (λ (h : length vs ≤ i). getD-pad-past vs i h ∙ sym (List·getD-eq-default vs 0 h))
     (below-or-not i (length vs))
 
 -- values handed over, where a template has at most five
-few-handed : (t : Template) (l vs : List ℕ) → leb (places t) 5 ≡ true → values t l ≡ some vs
-    → handed vs ≡ record { ok = true; count = length vs; v = padded 5 vs }
+few-handed : (t : Template) (l vs : List ℕ) → leb (places t) maxValues ≡ true → values t l ≡ some vs
+    → handed vs ≡ record { ok = true; v = padded maxValues vs }
 unfolding handed
 few-handed t l vs h e =
     let n = values-places t l vs e in
-    let k = leb-true (places t) 5 h in
-    rw (le-leb (length vs) 5 (omega arith), handed)
+    let k = leb-true (places t) maxValues h in
+    rw (le-leb (length vs) maxValues (omega arith), handed)
 
 -- a line's answer under a template: the values with zeros past them, or that there are none
 module _ {t : Template} {l : List ℕ} {r : Values} (a : Answer t l r) where
-  fitted : (o : Option (List ℕ)) → values t l ≡ o → r .ok ≡ true → (vs : List ℕ) × (values t l ≡ some vs) × (r .v ≡ padded 5 vs)
+  fitted : (o : Option (List ℕ)) → values t l ≡ o → r .ok ≡ true → (vs : List ℕ) × (values t l ≡ some vs) × (r .v ≡ padded maxValues vs)
   unfolding answerOf refusedValues
   fitted none e k = absurd (let b : r ≡ refusedValues = a .is ∙ ap answerOf e in true-or-false (r .ok) k (ap (λ (x : Values). x .ok) b))
   fitted (some vs) e k = (vs, e, ap (λ (x : Values). x .v) (a .is ∙ ap answerOf e ∙ few-handed t l vs (a .few) e))
@@ -157,7 +157,7 @@ module _ {t : Template} {l : List ℕ} {r : Values} (a : Answer t l r) where
 
   module _ (g : List ℕ → Form) (other : Form) where
     -- the line fits the template: its form is made of the values
-    pub taken : ((vs : List ℕ) → g (padded 5 vs) ≡ g vs) → r .ok ≡ true → g (r .v) ≡ either (values t l) g other
+    pub taken : ((vs : List ℕ) → g (padded maxValues vs) ≡ g vs) → r .ok ≡ true → g (r .v) ≡ either (values t l) g other
     unfolding either
     taken same k =
         let f = fitted (values t l) refl k in
@@ -169,39 +169,39 @@ module _ {t : Template} {l : List ℕ} {r : Values} (a : Answer t l r) where
     passed k = rw (unfitted (values t l) refl k)
 
 -- a form is made of the values alone
-pub job-same : (vs : List ℕ) → jobOf (padded 5 vs) ≡ jobOf vs
+pub job-same : (vs : List ℕ) → jobOf (padded maxValues vs) ≡ jobOf vs
 unfolding jobOf
 job-same vs = rw (getD-pad vs 0, getD-pad vs 1, getD-pad vs 2)
 
-pub one-same : (vs : List ℕ) → oneOf (padded 5 vs) ≡ oneOf vs
+pub one-same : (vs : List ℕ) → oneOf (padded maxValues vs) ≡ oneOf vs
 unfolding oneOf
 one-same vs = rw (getD-pad vs 0)
 
-pub node-same : (vs : List ℕ) → nodeOf (padded 5 vs) ≡ nodeOf vs
+pub node-same : (vs : List ℕ) → nodeOf (padded maxValues vs) ≡ nodeOf vs
 unfolding nodeOf
 node-same vs = rw (getD-pad vs 0, getD-pad vs 1, getD-pad vs 2, getD-pad vs 3, getD-pad vs 4)
 
-pub out-same : (vs : List ℕ) → outOf (padded 5 vs) ≡ outOf vs
+pub out-same : (vs : List ℕ) → outOf (padded maxValues vs) ≡ outOf vs
 unfolding outOf
 out-same vs = rw (getD-pad vs 0, getD-pad vs 1)
 
-pub end-same : (vs : List ℕ) → endOf (padded 5 vs) ≡ endOf vs
+pub end-same : (vs : List ℕ) → endOf (padded maxValues vs) ≡ endOf vs
 unfolding endOf
 end-same vs = refl
 
-pub size-same : (vs : List ℕ) → sizeOf (padded 5 vs) ≡ sizeOf vs
+pub size-same : (vs : List ℕ) → sizeOf (padded maxValues vs) ≡ sizeOf vs
 unfolding sizeOf
 size-same vs = rw (getD-pad vs 0, getD-pad vs 1, getD-pad vs 2, getD-pad vs 3)
 
-pub on-same : (vs : List ℕ) → onOf (padded 5 vs) ≡ onOf vs
+pub on-same : (vs : List ℕ) → onOf (padded maxValues vs) ≡ onOf vs
 unfolding onOf
 on-same vs = rw (getD-pad vs 0, getD-pad vs 1)
 
-pub yes-same : (vs : List ℕ) → yesOf (padded 5 vs) ≡ yesOf vs
+pub yes-same : (vs : List ℕ) → yesOf (padded maxValues vs) ≡ yesOf vs
 unfolding yesOf
 yes-same vs = rw (getD-pad vs 0, getD-pad vs 1, getD-pad vs 2)
 
-pub no-same : (vs : List ℕ) → noOf (padded 5 vs) ≡ noOf vs
+pub no-same : (vs : List ℕ) → noOf (padded maxValues vs) ≡ noOf vs
 unfolding noOf
 no-same vs = rw (getD-pad vs 0, getD-pad vs 1, getD-pad vs 2)
 

@@ -1,7 +1,7 @@
 -- The values of a line under a pattern, read byte by byte of the pattern. Assumes nothing.
 use Prim.Native.Nat.{ℕ, suc, _+_, _-_, _<_, _≤_}
 use mathlib.Core.Path.{_≡_, refl, sym, ap, _∙_}
-use mathlib.Core.Bool.{Bool, true, false}
+use mathlib.Core.Bool.{true, false}
 use mathlib.Core.Option.{Option, some, none, Option·map}
 use mathlib.Core.List.{List, [], _∷_, _++_, append-assoc, append-nil}
 use native.Mathlib.Omega.{arith}
@@ -12,7 +12,7 @@ use borrow.Author.Tests.{le-leb, lt-leb}
 use Rattle.common.specs.Lists.{zeros, padded}
 use Rattle.figures.specs.declared.Figure.the-variants.{At, Missing}
 use Rattle.forms.specs.declared.Values.{Values}
-use Rattle.forms.specs.Pattern.{isItem, keep, valuesBy, itemAt, refusedValues, handed, answerOf}
+use Rattle.forms.specs.Pattern.{isItem, keep, valuesBy, itemAt, maxValues, refusedValues, handed, answerOf}
 use Rattle.forms.proofs.Pattern.{by-none, by-some, found, item-found}
 
 -- values in front of those that follow
@@ -29,39 +29,39 @@ unfolding ahead keep
 ahead-more us v none = refl
 ahead-more us v (some vs) = ap some (sym (append-assoc us (v ∷ []) vs))
 
--- more than five values
-handed-many : (vs : List ℕ) → 5 < length vs → refusedValues ≡ handed vs
+-- more values than there is room for, and no more than that
+handed-many : (vs : List ℕ) → maxValues < length vs → refusedValues ≡ handed vs
 unfolding handed
-handed-many vs h = rw (lt-leb (length vs) 5 h, handed)
+handed-many vs h = rw (lt-leb (length vs) maxValues h, handed)
 
-handed-few : (vs : List ℕ) → length vs ≤ 5 → handed vs ≡ record { ok = true; count = length vs; v = padded 5 vs }
+handed-few : (vs : List ℕ) → length vs ≤ maxValues → handed vs ≡ record { ok = true; v = padded maxValues vs }
 unfolding handed
-handed-few vs h = rw (le-leb (length vs) 5 h, handed)
+handed-few vs h = rw (le-leb (length vs) maxValues h, handed)
 
-ahead-many : (us : List ℕ) (v : ℕ) (o : Option (List ℕ)) → 5 ≤ length us → refusedValues ≡ answerOf (ahead us (keep true v o))
+ahead-many : (us : List ℕ) (v : ℕ) (o : Option (List ℕ)) → maxValues ≤ length us → refusedValues ≡ answerOf (ahead us (keep true v o))
 unfolding ahead keep answerOf
 ahead-many us v none h = refl
 ahead-many us v (some vs) h = handed-many (us ++ v ∷ vs) (simp length-append (omega arith))
 
--- one value more among five
-set-padded : (us : List ℕ) (v count : ℕ) → length us ≡ count → count < 5 → set (padded 5 us) count v ≡ padded 5 (us ++ (v ∷ []))
+-- one value more
+set-padded : (us : List ℕ) (v count : ℕ) → length us ≡ count → count < maxValues → set (padded maxValues us) count v ≡ padded maxValues (us ++ (v ∷ []))
 unfolding padded
 set-padded us v count e h =
-    let k : ℕ = 4 - length us in
-    let p : 5 - length us ≡ suc k = omega arith in
-    let q : 5 - length (us ++ (v ∷ [])) ≡ k = simp length-append (omega arith) in
+    let k : ℕ = maxValues - 1 - length us in
+    let p : maxValues - length us ≡ suc k = omega arith in
+    let q : maxValues - length (us ++ (v ∷ [])) ≡ k = simp length-append (omega arith) in
     rw (p, q, append-assoc) (set-at us 0 (zeros k) v count e)
 
 -- the pattern ps is read up to i and the line s up to `at`, with the values seen so far in v
 pub record Reading (ps s v : List ℕ) (count at i : ℕ) : Type 0 where
   pub seen : List ℕ
   pub counted : length seen ≡ count
-  pub few : count ≤ 5
-  pub held : v ≡ padded 5 seen
+  pub few : count ≤ maxValues
+  pub held : v ≡ padded maxValues seen
   pub inside : i ≤ length ps
   pub so-far : valuesBy ps s ≡ ahead seen (valuesBy (drop i ps) (drop at s))
 
-pub reading-start : (ps s : List ℕ) → Reading ps s (zeros 5) 0 0 0
+pub reading-start : (ps s : List ℕ) → Reading ps s (zeros maxValues) 0 0 0
 unfolding padded
 reading-start ps s =
     record { seen = []; counted = refl; few = omega arith; held = refl; inside = omega arith; so-far = ahead-nil (valuesBy ps s) }
@@ -96,7 +96,7 @@ module _ (ps s v : List ℕ) (count at i : ℕ) (r : Reading ps s v count at i) 
       }
 
       -- a value
-      pub reading-value : isItem (getD ps i 0) ≡ true → count < 5 → Reading ps s (set v count x) (count + 1) n (i + 1)
+      pub reading-value : isItem (getD ps i 0) ≡ true → count < maxValues → Reading ps s (set v count x) (count + 1) n (i + 1)
       reading-value k l = record {
         seen = r .seen ++ (x ∷ []);
         counted = simp length-append (omega (arith, r .counted));
@@ -106,8 +106,8 @@ module _ (ps s v : List ℕ) (count at i : ℕ) (r : Reading ps s v count at i) 
         so-far = next ∙ rw k (ahead-more (r .seen) x (valuesBy (drop (i + 1) ps) (drop n s)));
       }
 
-      -- a sixth value
-      pub reading-many : isItem (getD ps i 0) ≡ true → 5 ≤ count → refusedValues ≡ answerOf (valuesBy ps s)
+      -- a value too many
+      pub reading-many : isItem (getD ps i 0) ≡ true → maxValues ≤ count → refusedValues ≡ answerOf (valuesBy ps s)
       reading-many k l = rw (next, k) (ahead-many (r .seen) x (valuesBy (drop (i + 1) ps) (drop n s)) (omega (arith, r .counted)))
 
   module _ (h : length ps ≤ i) where
@@ -116,7 +116,7 @@ module _ (ps s v : List ℕ) (count at i : ℕ) (r : Reading ps s v count at i) 
     unfolding ahead answerOf valuesBy
     reading-long k = rw (r .so-far, drop-of-length-le ps h, drop-cons s at 0)
 
-    pub reading-done : length s ≤ at → _≡_ {A = Values} (record { ok = true; count = count; v = v }) (answerOf (valuesBy ps s))
+    pub reading-done : length s ≤ at → _≡_ {A = Values} (record { ok = true; v = v }) (answerOf (valuesBy ps s))
     unfolding ahead answerOf valuesBy
     reading-done k =
-        rw (r .so-far, drop-of-length-le ps h, drop-of-length-le s k, append-nil (r .seen), handed-few (r .seen) (omega (arith, r .counted)), r .counted, ← (r .held))
+        rw (r .so-far, drop-of-length-le ps h, drop-of-length-le s k, append-nil (r .seen), handed-few (r .seen) (omega (arith, r .counted)), ← (r .held))

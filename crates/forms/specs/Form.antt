@@ -35,7 +35,7 @@ placed l =
           ]
     ]
 
--- A form's switch is a byte, so a figure above 255 is taken as 255. A job has at most 64 switches: both are out of range.
+-- A form's switch is a byte, so a figure above 255 is taken as 255. A crossbar has at most 64 switches: both are out of range.
 unfoldable pub switchOf : ℕ → ℕ
 switchOf x = elim (leb x 255) [ true ↦ x | false ↦ 255 ]
 

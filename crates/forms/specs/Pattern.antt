@@ -53,12 +53,16 @@ byteAt p (b ∷ s) next =
 unfoldable pub itemAt : ℕ → List ℕ → ℕ → Figure
 itemAt p s at = elim (eqb p 35) [ true ↦ figureAt s at | false ↦ byteAt p (drop at s) (at + 1) ]
 
--- values handed over: up to five, with zeros past them. A pattern of more values is not ok.
+-- the most values of a line: a node line has five
+abbrev pub maxValues : ℕ
+maxValues = 5
+
+-- values handed over: at most that many, with zeros past them. A pattern of more values is not ok.
 unfoldable pub refusedValues : Values
-refusedValues = record { ok = false; count = 0; v = zeros 5 }
+refusedValues = record { ok = false; v = zeros maxValues }
 
 unfoldable pub handed : List ℕ → Values
-handed vs = elim (leb (length vs) 5) [ true ↦ record { ok = true; count = length vs; v = padded 5 vs } | false ↦ refusedValues ]
+handed vs = elim (leb (length vs) maxValues) [ true ↦ record { ok = true; v = padded maxValues vs } | false ↦ refusedValues ]
 
 unfoldable pub answerOf : Option (List ℕ) → Values
 answerOf none = refusedValues

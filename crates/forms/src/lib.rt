@@ -68,11 +68,13 @@ const FIGURE: u8 = 35;
 
 const LABEL: u8 = 64;
 
-// The values of a line under a pattern, in turn, or that the line does not fit it.
+// The most values of a line: a node line, `(node I X (L H) T)`, has five.
+pub const MAX_VALUES: usize = 5;
+
+// The values of a line under a pattern, in turn and with zeros past them, or that the line does not fit it.
 struct Values {
     ok: bool,
-    count: usize,
-    v: [u32; 5],
+    v: [u32; MAX_VALUES],
 }
 
 // "Labels T: `h` a row, `v` a column, `b` both"; 0 for any other byte.
@@ -135,16 +137,15 @@ fn refused_values() -> Values
 {
     Values {
         ok: false,
-        count: 0,
-        v: [0; 5],
+        v: [0; MAX_VALUES],
     }
 }
 
-// The values of a line under a pattern. There are at most five.
+// The values of a line under a pattern. A pattern of more than MAX_VALUES fits no line.
 fn read_values(line: &[u8], pattern: &[u8]) -> Values
     ensures { λ r. ⌜ r ≡ answerOf (valuesBy (now (pattern .entry)) (now (line .entry))) ⌝ }
 {
-    let mut v = [0u32; 5];
+    let mut v = [0u32; MAX_VALUES];
     let mut count: usize = 0;
     let mut at: usize = 0;
     let mut i: usize = 0;
@@ -154,7 +155,7 @@ fn read_values(line: &[u8], pattern: &[u8]) -> Values
             return refused_values();
         };
         if is_item(p) {
-            if 5 <= count {
+            if MAX_VALUES <= count {
                 return refused_values();
             }
             v[count] = value;
@@ -166,7 +167,7 @@ fn read_values(line: &[u8], pattern: &[u8]) -> Values
     if at < line.len() {
         return refused_values();
     }
-    Values { ok: true, count, v }
+    Values { ok: true, v }
 }
 
 // A cell's switch as a byte: the smaller of the figure and 255. A crossbar has at most 64 switches, so a figure above 255 and 255

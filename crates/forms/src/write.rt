@@ -1,6 +1,7 @@
 // A line written from a pattern and its values.
 use super::FIGURE;
 use super::LABEL;
+use super::MAX_VALUES;
 use common::LABEL_H;
 use common::LABEL_V;
 ghost use mathlib.Core.Path.{_≡_};
@@ -9,9 +10,6 @@ ghost use lib.ListN.{getD};
 ghost use Rattle.figures.specs.Figure.{decimal};
 ghost use Rattle.forms.specs.Template.{letterOf};
 ghost use Rattle.forms.specs.Filled.{itemOf, uses, filledLine, Written};
-
-// The most values of a line.
-pub const MAX_VALUES: usize = 5;
 
 // What came of writing: the position past what was written, or that it does not fit.
 pub enum Wrote {
