@@ -93,7 +93,7 @@ fn in_range(rows: u16, columns: u16, switches: u16, outputs: u16) -> bool
     outputs as usize <= MAX_OUTPUTS
 }
 
-// Ground 12 on a record and its cells: whether it does not touch them.
+// Whether ground 12 is not met by a record and its cells.
 pub fn is_sound(x: Crossbar, cells: &[u8]) -> bool
     ensures { λ r. ⌜ r ≡ sound x (now (cells .entry)) ⌝ }
 {

@@ -162,7 +162,7 @@ pub some-more : (f : ℕ → Bool) (k : ℕ) → f k || some-below k f ≡ some-
 unfolding some-below
 some-more f k = rw add-one
 
--- a part of round t + 1 does not touch the stamps of round t
+-- a part of round t + 1 does not change the stamps of round t
 pub marks-front :
     (t : ℕ) (f : ℕ → Bool) (l l′ : List ℕ) (p : Bool) → Marks (t + 2) f l l′ p
     → (w : ℕ) → eqb (getD l′ w 0) (t + 1) ≡ eqb (getD l w 0) (t + 1)

@@ -299,7 +299,7 @@ stands-left : (n k : ℕ) (stands : List ℕ) → length stands ≡ k → drop k
 unfolding padded
 stands-left n k stands e = drop-at stands (zeros (n - length stands)) k e
 
--- ground 12 does not touch it
+-- ground 12 is not met by it
 listed-sound :
     (r c v k : ℕ) (codes stands : List ℕ)
     → Within r c v k codes stands

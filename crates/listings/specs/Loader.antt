@@ -32,7 +32,7 @@ abbrev pub listed : SizeForm → List ℕ → List ℕ → Listed
 listed s codes outs =
     record { rows = s .rows; columns = s .columns; switches = s .switches; outputs = s .outputs; codes = codes; outs = outs }
 
--- ground 2 does not touch the sizes
+-- whether each figure of the first line is in its range: ground 2 is not met
 abbrev pub sizesIn : SizeForm → Bool
 sizesIn s = inRange (s .rows) (s .columns) (s .switches) (s .outputs)
 
