@@ -1,5 +1,5 @@
--- Demand 3, from job text to readings. For every text that is accepted, as a diagram d: map gives a crossbar for it, and for all of
--- its outputs and all settings of its switches
+-- Demand 3, "a single claim from job text to readings": document 01, "What an output reads", which the quotes below are from. For every
+-- text that is accepted, as a diagram d: map gives a crossbar for it, and for all of its outputs and all settings of its switches
 --   an output reads 1 exactly when its walk ends at one;
 --   two outputs read the same under every setting exactly when they stand on one row;
 --   light and walk, unless they refuse, answer that reading.
@@ -22,15 +22,15 @@ use Rattle.placement.specs.Map.{mapJob}
 use Rattle.conduction.specs.Chain.{Chain, row}
 use Rattle.conduction.specs.Light.{Lit, light, joined}
 
--- "the record holds that row at J"
+-- the row of an output. "What an output reads": "the record holds that row at J"
 abbrev pub standsOn : Whole → ℕ → ℕ
 standsOn w j = getD (w .head .outs) j 0
 
--- "Under a setting the output reads 1 when such a chain joins row 0 to its row, and 0 otherwise."
+-- "What an output reads": "Under a setting the output reads 1 when such a chain joins row 0 to its row, and 0 otherwise."
 abbrev pub Reads : Whole → List ℕ → ℕ → Type 0
 Reads w setting j = Chain (w .head .rows) (w .head .columns) (joined (w .head) (w .codes) setting) (row (standsOn w j))
 
--- "Its walk starts at the id named, follows the job's node lines, and ends at one when it comes to terminal 1."
+-- "What an output reads": "Its walk starts at the id named, follows the job's node lines, and ends at one when it comes to terminal 1."
 abbrev pub WalksToOne : Diagram → List ℕ → ℕ → Type 0
 WalksToOne d setting j = walkEnd d setting (getD (d .outs) j 0) ≡ 1
 

@@ -1,4 +1,5 @@
--- The crossbar record and ground 12 on it.
+-- The crossbar record. Document 01, "Placement": "The crossbar record holds R, C, V, K and 32 output rows, the unused ones 0." And ground
+-- 12 on it, of "Grounds for sending a job back".
 use Prim.Native.Nat.{ℕ, _+_, _*_}
 use mathlib.Core.Bool.{Bool, _&&_}
 use mathlib.Core.List.{List}
@@ -17,7 +18,7 @@ pub record Whole : Type 0 where
 unfoldable pub size : Crossbar → ℕ
 size x = x .rows * x .columns
 
--- "0 as .. field of a record"
+-- the record of a refusal. "Grounds for sending a job back": "0 as value, rounds or field of a record"
 unfoldable pub no-record : Crossbar
 no-record = record { rows = 0; columns = 0; switches = 0; outputs = 0; outs = zeros maxOutputs }
 

@@ -1,4 +1,4 @@
--- light's answer: crossbar and setting in; the lit wires and the rounds out.
+-- Light's answer. Document 01, "The services": "crossbar and setting in; the lit wires and the rounds out."
 use Prim.Native.Nat.{ℕ, _+_, _-_}
 use mathlib.Core.Path.{_≡_}
 use mathlib.Core.Bool.{Bool, not}
@@ -31,8 +31,8 @@ litBy x cells setting =
           rounds (x .rows) (x .columns) (joined x cells setting) (roundCount (x .rows) (x .columns) (joined x cells setting));
     }
 
--- record, cells, setting and the length of the output buffer in. "Light checks 12, 13, 14, 15", line 0. Ground 15: "A further round
--- would still add a wire after R + C − 1 rounds."
+-- record, cells, setting and the length of the output buffer in. "Grounds for sending a job back": "Light checks 12, 13, 14, 15", line
+-- 0. Ground 15: "A further round would still add a wire after R + C − 1 rounds."
 unfoldable pub light : Crossbar → List ℕ → List ℕ → ℕ → Outcome Lit
 light x cells setting room =
     unless

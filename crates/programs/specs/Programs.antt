@@ -64,7 +64,8 @@ unfoldable pub lightAndRead : List ℕ → Whole → Outcome (List ℕ)
 lightAndRead setting w =
     light (w .head) (w .codes) setting (maxRows + maxColumns) then λ a. done (readings (w .head) a)
 
--- "The second reads a line `(set 1 1)` and then a listing. Its lines count over the whole input": the listing's first is line 2
+-- "Two programs": "The second reads a line `(set 1 1)` .. and then a listing. .. Its lines count over the whole input": the listing's first
+-- is line 2
 unfoldable pub lightProgram : List ℕ → List ℕ
 lightProgram s =
     printed

@@ -59,7 +59,8 @@ fn light_and_read(x: Crossbar, cells: &[u8], setting: &[u8], out: &mut [u8]) -> 
     print_readings(out, x, lit.rounds as u32, &wires)
 }
 
-// "The second reads a line `(set 1 1)` and then a listing. Its lines count over the whole input": the listing starts on line 2.
+// "Two programs": "The second reads a line `(set 1 1)` .. and then a listing. .. Its lines count over the whole input": the listing starts
+// on line 2.
 pub fn light_text(input: &[u8], out: &mut [u8]) -> usize
     ensures { λ r. ⌜ Said (length (now (out .entry))) (lightProgram (now (input .entry))) r (now (out .exit)) ⌝ }
 {
