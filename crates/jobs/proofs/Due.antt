@@ -1,5 +1,5 @@
--- The definition's steps, one for each kind of line, by the form that the line yields: a line that is not the form due refuses, and
--- one that is goes on unless it meets a ground. Assumes nothing.
+-- The answers of the functions of `lines.rt`, one for each kind of line, by the form that the line yields: a line that is not the form
+-- due is refused, and one that is gives its values unless it meets a ground. Assumes nothing.
 use Prim.Native.Nat.{ℕ, zero, suc, _+_, _≤_, _<_}
 use mathlib.Core.Path.{_≡_, refl, sym, ap, _∙_}
 use mathlib.Core.Logic.{⊎-elim}
@@ -11,12 +11,10 @@ use lib.ListN.{length, getD, drop, drop-of-length-le}
 use lib.Seq.{drop-cons}
 use lib.Dec.{eqb, ltb}
 use borrow.Author.Tests.{ltb-true, eqb-true, not-false}
-use Rattle.common.specs.Limits.{maxSwitches, maxNodes, maxOutputs}
-use Rattle.common.specs.Outcome.{Outcome, done, refused, _then_, _when_, lowest, unless}
+use Rattle.common.specs.Outcome.{Outcome, done, refused, _then_, _when_, lowest, unless, numberOf, lineOf, refusalOf, valueOf}
 use Rattle.common.proofs.Lists.{and-left, and-right, by-test}
-use Rattle.common.proofs.Outcome.{then-is, unless-none, not-met, others}
+use Rattle.common.proofs.Outcome.{not-met, others}
 use Rattle.figures.specs.Line.{Lines, left, _⏎_, linesOf, afterFirst, follows, lineEnd, onto}
-use Rattle.figures.proofs.Ends.{line-left}
 use Rattle.forms.specs.declared.Form.{Form}
 use Rattle.forms.specs.declared.Form.the-variants as form
 use Rattle.forms.specs.declared.JobForm.{JobForm}
@@ -28,13 +26,30 @@ use Rattle.forms.proofs.Sorts.{asJob, asOne, asNode, asOut, asEnd, ofKind, kind
 use Rattle.forms.specs.Due.{due}
 use Rattle.forms.proofs.Lines.{due-job, no-job, due-one, no-one, due-node, no-node, due-out, no-out, due-end, no-end, lines-after}
 use Rattle.diagram.specs.declared.Node.{Node}
-use Rattle.diagram.specs.Diagram.{Diagram, bare, withNode, withOut, idCount}
+use Rattle.diagram.specs.Diagram.{Diagram, idCount}
 use Rattle.diagram.specs.Stored.{stored}
 use Rattle.diagram.proofs.Stored.{idCount-stored}
 use Rattle.diagram.specs.Faults.{headFault, oneFault, nodeFault, outFault}
-use Rattle.jobs.specs.Reading.{ReadText, nodeOf, readEnd, readOuts, readNodes, readOne, readHead, readText}
-use Rattle.jobs.specs.Steps.{Sized, HeadStep, OneStep, NodeStep, OutStep, EndStep}
+use Rattle.jobs.specs.Reading.{nodeOf}
+use Rattle.jobs.specs.LineSteps.{
+  headFaultOf,
+  headAnswer,
+  headLine,
+  oneFaultOf,
+  oneAnswer,
+  oneLine,
+  nodeFaultOf,
+  nodeAnswer,
+  nodeLine,
+  outFaultOf,
+  outAnswer,
+  outLine,
+  endDue,
+  lastLine,
+}
+use Rattle.jobs.specs.Steps.{Sized}
 use Rattle.jobs.proofs.Accepted.{node-label, one-label, head-ranges}
+use Rattle.jobs.proofs.LineLaws.{line-missing, line-stops, line-goes, due-inside}
 
 -- a number that is given stops, whatever was to follow
 pub unless-some : {A : Type 0} (k n : ℕ) (rest : Outcome A) → (k ≡ 0 → ⊥) → unless k n rest ≡ refused k n
@@ -51,24 +66,6 @@ pub stops :
     → whole ≡ unless k n rest
 stops k fault n whole other rest e w h =
     w ∙ ap (λ (q : ℕ). unless q n other) (sym e) ∙ unless-some k n other h ∙ sym (unless-some k n rest h)
-
-pub goes :
-    {A : Type 0} (k fault n : ℕ) (whole other rest : Outcome A)
-    → k ≡ fault
-    → whole ≡ unless fault n other
-    → k ≡ 0
-    → other ≡ rest
-    → whole ≡ unless 0 0 rest
-unfolding unless
-goes k fault n whole other rest e w h f = w ∙ unless-none fault n other (sym e ∙ h) ∙ f
-
--- the lines after the line at a position
-pub lines-next : (s : List ℕ) (at e : ℕ) → e ≡ lineEnd s at → e < length s → linesOf (drop (e + 1) s) ≡ afterFirst (linesOf (drop at s))
-lines-next s at e h within = rw h (sym (lines-after s at (rw (← h) within)))
-
-pub lines-same : (s : List ℕ) (at e : ℕ) → e ≡ lineEnd s at → length s ≤ e → linesOf (drop at s) ≡ afterFirst (linesOf (drop at s))
-unfolding afterFirst
-lines-same s at e h past = rw (line-left s at (rw (← h) past))
 
 -- a byte follows just where the position is before the last byte's end
 onto-follows : (b : ℕ) (ls : Lines) → follows (onto b ls) ≡ true
@@ -111,70 +108,7 @@ pub end-form : (g : Form) → g ≡ form.End → asEnd g ≡ some []
 unfolding ofKind kindOf valuesIn
 end-form g e = rw e
 
-pub no-sizes : Sized 0 0 0
-unfolding maxSwitches maxNodes maxOutputs
-no-sizes = record { switches-most = omega arith; nodes-most = omega arith; outputs-most = omega arith }
-
 module _ (ls : Lines) (n : ℕ) where
-  pub head-missing : (rest : Outcome ReadText) → asJob (formIn ls n) ≡ none → readHead n ls ≡ unless 1 n rest
-  unfolding readHead _then_ unless
-  head-missing rest e = rw (no-job ls n e)
-
-  pub head-due :
-      (vs : List ℕ)
-      → asJob (formIn ls n) ≡ some vs
-      → readHead n ls
-      ≡ unless (headFault (getD vs 0 0) (getD vs 1 0) (getD vs 2 0)) n
-      (readOne (getD vs 0 0) (getD vs 1 0) (getD vs 2 0) (n + 1) (afterFirst ls))
-  unfolding readHead
-  head-due vs e = then-is (due jobForm n ls) _ _ (due-job ls n vs e)
-
-  pub one-missing : (v m k : ℕ) (rest : Outcome ReadText) → asOne (formIn ls n) ≡ none → readOne v m k n ls ≡ unless 1 n rest
-  unfolding readOne _then_ unless
-  one-missing v m k rest e = rw (no-one ls n e)
-
-  pub one-due :
-      (v m k : ℕ) (vs : List ℕ)
-      → asOne (formIn ls n) ≡ some vs
-      → readOne v m k n ls ≡ unless (oneFault (getD vs 0 0)) n (readNodes m k (bare v (getD vs 0 0)) (n + 1) (afterFirst ls))
-  unfolding readOne
-  one-due v m k vs e = then-is (due oneForm n ls) _ _ (due-one ls n vs e)
-
-  pub node-missing : (m k : ℕ) (d : Diagram) (rest : Outcome ReadText) → asNode (formIn ls n) ≡ none → readNodes (suc m) k d n ls ≡ unless 1 n rest
-  unfolding readNodes _then_ unless
-  node-missing m k d rest e = rw (no-node ls n e)
-
-  pub node-due :
-      (m k : ℕ) (d : Diagram) (vs : List ℕ)
-      → asNode (formIn ls n) ≡ some vs
-      → readNodes (suc m) k d n ls
-      ≡ unless (nodeFault d (getD vs 0 0) (nodeOf vs)) n (readNodes m k (withNode d (nodeOf vs)) (n + 1) (afterFirst ls))
-  unfolding readNodes
-  node-due m k d vs e = then-is (due nodeForm n ls) _ _ (due-node ls n vs e)
-
-  pub out-missing : (k : ℕ) (d : Diagram) (rest : Outcome ReadText) → asOut (formIn ls n) ≡ none → readOuts (suc k) d n ls ≡ unless 1 n rest
-  unfolding readOuts _then_ unless
-  out-missing k d rest e = rw (no-out ls n e)
-
-  pub out-due :
-      (k : ℕ) (d : Diagram) (vs : List ℕ)
-      → asOut (formIn ls n) ≡ some vs
-      → readOuts (suc k) d n ls
-      ≡ unless (outFault d (getD vs 0 0) (getD vs 1 0)) n (readOuts k (withOut d (getD vs 1 0)) (n + 1) (afterFirst ls))
-  unfolding readOuts
-  out-due k d vs e = then-is (due outForm n ls) _ _ (due-out ls n vs e)
-
-  pub end-missing : (d : Diagram) (rest : Outcome ReadText) → asEnd (formIn ls n) ≡ none → readEnd d n ls ≡ unless 1 n rest
-  unfolding readEnd _then_ unless
-  end-missing d rest e = rw (no-end ls n e)
-
-  pub end-due :
-      (d : Diagram) (vs : List ℕ)
-      → asEnd (formIn ls n) ≡ some vs
-      → readEnd d n ls ≡ unless (lowest ((10 when follows (afterFirst ls)) ∷ [])) (n + 1) (done (record { diagram = d; last = n }))
-  unfolding readEnd
-  end-due d vs e = then-is (due endForm n ls) _ _ (due-end ls n vs e)
-
   -- a label is 1, 2 or 3
   pub node-label-most : (i x l h t : ℕ) → asNode (formIn ls n) ≡ some (i ∷ x ∷ l ∷ h ∷ t ∷ []) → t ≤ 3
   unfolding nodeOf
@@ -207,154 +141,172 @@ pub out-below : (d : Diagram) (j i : ℕ) → outFault d j i ≡ 0 → i < idCou
 unfolding outFault
 out-below d j i h = ltb-true i (idCount d) (not-false (ltb i (idCount d)) (not-met 4 _ _ (others 2 _ _ h)))
 
--- Each step of the reader, from the form g that the line at a position yields, the number k of its fault, and the position past it.
-module _ (s : List ℕ) (g : Form) (yields : g ≡ formIn (linesOf s) 1) where
-  pub head-none : asJob g ≡ none → HeadStep s (record { refusal = record { number = 1; line = 1 }; switches = 0; nodes = 0; outputs = 0; next = 0 })
-  unfolding readText maxSwitches maxNodes maxOutputs
-  head-none e = record { goes-on = head-missing (linesOf s) 1 _ (ap asJob (sym yields) ∙ e); sized = no-sizes }
+-- The answer of each line's function, from the form g that the line at a position yields and the number k of its fault.
+module _ (s : List ℕ) (at n : ℕ) (g : Form) (yields : g ≡ formIn (linesOf (drop at s)) n) where
+  pub head-none :
+      asJob g ≡ none
+      → record { refusal = record { number = 1; line = n }; switches = 0; nodes = 0; outputs = 0; next = 0 } ≡ headLine s at n
+  unfolding headLine headAnswer refusalOf numberOf lineOf valueOf
+  head-none e = rw (line-missing jobForm headFaultOf n _ (no-job (linesOf (drop at s)) n (ap asJob (sym yields) ∙ e)))
 
-  module _ (f : JobForm) (due : g ≡ form.Job f) (k : ℕ) (fault : k ≡ headFault (f .switches) (f .nodes) (f .outputs)) where
-    head-whole :
-        readText s
-        ≡ unless (headFault (f .switches) (f .nodes) (f .outputs)) 1 (readOne (f .switches) (f .nodes) (f .outputs) 2 (afterFirst (linesOf s)))
-    unfolding readText
-    head-whole =
-        head-due (linesOf s) 1 (f .switches ∷ f .nodes ∷ f .outputs ∷ []) (ap asJob (sym yields) ∙ job-form g f due)
+  module _ (f : JobForm) (is : g ≡ form.Job f) where
+    head-found :
+        due jobForm n (linesOf (drop at s))
+        ≡ done (record { vals = f .switches ∷ f .nodes ∷ f .outputs ∷ []; later = afterFirst (linesOf (drop at s)) })
+    head-found = due-job (linesOf (drop at s)) n _ (ap asJob (sym yields) ∙ job-form g f is)
 
-    pub head-stops : (k ≡ 0 → ⊥) → HeadStep s (record { refusal = record { number = k; line = 1 }; switches = 0; nodes = 0; outputs = 0; next = 0 })
-    head-stops h = record { goes-on = stops k _ 1 _ _ _ fault head-whole h; sized = no-sizes }
+    pub head-inside : lineEnd s at < length s
+    head-inside = due-inside jobForm n s at _ head-found
 
-    pub head-sized : k ≡ 0 → Sized (f .switches) (f .nodes) (f .outputs)
-    head-sized h =
-        let r = head-ranges (f .switches) (f .nodes) (f .outputs) (sym fault ∙ h) in
-        record { switches-most = r .0; nodes-most = r .1; outputs-most = r .3 }
+    module _ (k : ℕ) (fault : k ≡ headFault (f .switches) (f .nodes) (f .outputs)) where
+      pub head-stops :
+          (k ≡ 0 → ⊥)
+          → record { refusal = record { number = k; line = n }; switches = 0; nodes = 0; outputs = 0; next = 0 } ≡ headLine s at n
+      unfolding headLine headAnswer headFaultOf refusalOf numberOf lineOf valueOf
+      head-stops h = rw (line-stops jobForm headFaultOf n _ _ _ head-found k fault h)
 
-    pub head-goes :
-        k ≡ 0
-        → (next : ℕ)
-        → linesOf (drop next s) ≡ afterFirst (linesOf s)
-        → HeadStep s (record {
-          refusal = record { number = 0; line = 0 };
-          switches = f .switches;
-          nodes = f .nodes;
-          outputs = f .outputs;
-          next = next;
-        })
-    head-goes h next e =
-        record {
-          goes-on = goes k _ 1 _ _ _ fault head-whole h (ap (readOne (f .switches) (f .nodes) (f .outputs) 2) (sym e));
-          sized = head-sized h;
-        }
+      pub head-sized : k ≡ 0 → Sized (f .switches) (f .nodes) (f .outputs)
+      head-sized h =
+          let r = head-ranges (f .switches) (f .nodes) (f .outputs) (sym fault ∙ h) in
+          record { switches-most = r .0; nodes-most = r .1; outputs-most = r .3 }
 
-module _ (s : List ℕ) (at : ℕ) (g : Form) (yields : g ≡ formIn (linesOf (drop at s)) 2) where
-  pub one-none : asOne g ≡ none → OneStep s at (record { refusal = record { number = 1; line = 2 }; one = 0; next = 0 })
-  one-none e = record { goes-on = λ v m k. one-missing (linesOf (drop at s)) 2 v m k _ (ap asOne (sym yields) ∙ e) }
+      pub head-goes :
+          k ≡ 0
+          → (end : ℕ)
+          → end ≡ lineEnd s at
+          → record {
+            refusal = record { number = 0; line = 0 };
+            switches = f .switches;
+            nodes = f .nodes;
+            outputs = f .outputs;
+            next = end + 1;
+          }
+          ≡ headLine s at n
+      unfolding headLine headAnswer headFaultOf refusalOf numberOf lineOf valueOf
+      head-goes h end e = rw (e, line-goes jobForm headFaultOf n _ _ _ head-found k fault h)
 
-  module _ (t : ℕ) (due : g ≡ form.One t) where
+  pub one-none : asOne g ≡ none → record { refusal = record { number = 1; line = n }; one = 0; next = 0 } ≡ oneLine s at n
+  unfolding oneLine oneAnswer refusalOf numberOf lineOf valueOf
+  one-none e = rw (line-missing oneForm oneFaultOf n _ (no-one (linesOf (drop at s)) n (ap asOne (sym yields) ∙ e)))
+
+  module _ (t : ℕ) (is : g ≡ form.One t) where
     pub one-most : t ≤ 3
-    one-most = one-label-most (linesOf (drop at s)) 2 t (ap asOne (sym yields) ∙ one-form g t due)
+    one-most = one-label-most (linesOf (drop at s)) n t (ap asOne (sym yields) ∙ one-form g t is)
+
+    one-found :
+        due oneForm n (linesOf (drop at s)) ≡ done (record { vals = t ∷ []; later = afterFirst (linesOf (drop at s)) })
+    one-found = due-one (linesOf (drop at s)) n _ (ap asOne (sym yields) ∙ one-form g t is)
+
+    pub one-inside : lineEnd s at < length s
+    one-inside = due-inside oneForm n s at _ one-found
 
     module _ (k : ℕ) (fault : k ≡ oneFault t) where
-      one-whole :
-          (v m j : ℕ)
-          → readOne v m j 2 (linesOf (drop at s))
-          ≡ unless (oneFault t) 2 (readNodes m j (bare v t) 3 (afterFirst (linesOf (drop at s))))
-      one-whole v m j = one-due (linesOf (drop at s)) 2 v m j (t ∷ []) (ap asOne (sym yields) ∙ one-form g t due)
-
-      pub one-stops : (k ≡ 0 → ⊥) → OneStep s at (record { refusal = record { number = k; line = 2 }; one = 0; next = 0 })
-      one-stops h = record { goes-on = λ v m j. stops k _ 2 _ _ _ fault (one-whole v m j) h }
+      pub one-stops : (k ≡ 0 → ⊥) → record { refusal = record { number = k; line = n }; one = 0; next = 0 } ≡ oneLine s at n
+      unfolding oneLine oneAnswer oneFaultOf refusalOf numberOf lineOf valueOf
+      one-stops h = rw (line-stops oneForm oneFaultOf n _ _ _ one-found k fault h)
 
       pub one-goes :
           k ≡ 0
-          → (next : ℕ)
-          → linesOf (drop next s) ≡ afterFirst (linesOf (drop at s))
-          → OneStep s at (record { refusal = record { number = 0; line = 0 }; one = t; next = next })
-      one-goes h next e =
-          record { goes-on = λ v m j. goes k _ 2 _ _ _ fault (one-whole v m j) h (ap (readNodes m j (bare v t) 3) (sym e)) }
+          → (end : ℕ)
+          → end ≡ lineEnd s at
+          → record { refusal = record { number = 0; line = 0 }; one = t; next = end + 1 } ≡ oneLine s at n
+      unfolding oneLine oneAnswer oneFaultOf refusalOf numberOf lineOf valueOf
+      one-goes h end e = rw (e, line-goes oneForm oneFaultOf n _ _ _ one-found k fault h)
 
-module _ (s : List ℕ) (at n : ℕ) (d : Diagram) (g : Form) (yields : g ≡ formIn (linesOf (drop at s)) n) where
-  pub node-none : asNode g ≡ none → NodeStep s at n d (record { refusal = record { number = 1; line = n }; x = 0; l = 0; h = 0; t = 0; next = 0 })
-  node-none e = record { goes-on = λ m k. node-missing (linesOf (drop at s)) n m k d _ (ap asNode (sym yields) ∙ e) }
+  module _ (d : Diagram) where
+    pub node-none :
+        asNode g ≡ none
+        → record { refusal = record { number = 1; line = n }; x = 0; l = 0; h = 0; t = 0; next = 0 } ≡ nodeLine s at n d
+    unfolding nodeLine nodeAnswer refusalOf numberOf lineOf valueOf
+    node-none e = rw (line-missing nodeForm (nodeFaultOf d) n _ (no-node (linesOf (drop at s)) n (ap asNode (sym yields) ∙ e)))
 
-  module _ (f : NodeForm) (due : g ≡ form.Node f) where
+    pub out-none : asOut g ≡ none → record { refusal = record { number = 1; line = n }; target = 0; next = 0 } ≡ outLine s at n d
+    unfolding outLine outAnswer refusalOf numberOf lineOf valueOf
+    out-none e = rw (line-missing outForm (outFaultOf d) n _ (no-out (linesOf (drop at s)) n (ap asOut (sym yields) ∙ e)))
+
+  module _ (f : NodeForm) (is : g ≡ form.Node f) where
     pub node-most : f .t ≤ 3
     node-most =
-        node-label-most (linesOf (drop at s)) n (f .id) (f .x) (f .l) (f .h) (f .t) (ap asNode (sym yields) ∙ node-form g f due)
+        node-label-most (linesOf (drop at s)) n (f .id) (f .x) (f .l) (f .h) (f .t) (ap asNode (sym yields) ∙ node-form g f is)
 
-    module _ (k : ℕ) (fault : k ≡ nodeFault d (f .id) (record { x = f .x; l = f .l; h = f .h; t = f .t })) where
-      node-whole :
-          (m j : ℕ)
-          → readNodes (suc m) j d n (linesOf (drop at s))
-          ≡ unless (nodeFault d (f .id) (record { x = f .x; l = f .l; h = f .h; t = f .t })) n
-          (readNodes m j (withNode d (record { x = f .x; l = f .l; h = f .h; t = f .t })) (n + 1) (afterFirst (linesOf (drop at s))))
-      unfolding nodeOf
-      node-whole m j =
-          node-due (linesOf (drop at s)) n m j d (f .id ∷ f .x ∷ f .l ∷ f .h ∷ f .t ∷ []) (ap asNode (sym yields) ∙ node-form g f due)
+    node-found :
+        due nodeForm n (linesOf (drop at s))
+        ≡ done (record { vals = f .id ∷ f .x ∷ f .l ∷ f .h ∷ f .t ∷ []; later = afterFirst (linesOf (drop at s)) })
+    node-found = due-node (linesOf (drop at s)) n _ (ap asNode (sym yields) ∙ node-form g f is)
 
-      pub node-stops : (k ≡ 0 → ⊥) → NodeStep s at n d (record { refusal = record { number = k; line = n }; x = 0; l = 0; h = 0; t = 0; next = 0 })
-      node-stops q = record { goes-on = λ m j. stops k _ n _ _ _ fault (node-whole m j) q }
+    pub node-inside : lineEnd s at < length s
+    node-inside = due-inside nodeForm n s at _ node-found
+
+    module _ (d : Diagram) (k : ℕ) (fault : k ≡ nodeFault d (f .id) (record { x = f .x; l = f .l; h = f .h; t = f .t })) where
+      pub node-stops :
+          (k ≡ 0 → ⊥)
+          → record { refusal = record { number = k; line = n }; x = 0; l = 0; h = 0; t = 0; next = 0 } ≡ nodeLine s at n d
+      unfolding nodeLine nodeAnswer nodeFaultOf nodeOf refusalOf numberOf lineOf valueOf
+      node-stops q = rw (line-stops nodeForm (nodeFaultOf d) n _ _ _ node-found k fault q)
 
       pub node-goes :
           k ≡ 0
-          → (next : ℕ)
-          → linesOf (drop next s) ≡ afterFirst (linesOf (drop at s))
-          → NodeStep s at n d (record {
+          → (end : ℕ)
+          → end ≡ lineEnd s at
+          → record {
             refusal = record { number = 0; line = 0 };
             x = f .x;
             l = f .l;
             h = f .h;
             t = f .t;
-            next = next;
-          })
-      node-goes q next e =
-          record {
-            goes-on = λ m j.
-                goes k _ n _ _ _ fault (node-whole m j) q
-                (ap (readNodes m j (withNode d (record { x = f .x; l = f .l; h = f .h; t = f .t })) (n + 1)) (sym e));
+            next = end + 1;
           }
+          ≡ nodeLine s at n d
+      unfolding nodeLine nodeAnswer nodeFaultOf nodeOf refusalOf numberOf lineOf valueOf
+      node-goes q end e = rw (e, line-goes nodeForm (nodeFaultOf d) n _ _ _ node-found k fault q)
 
-module _ (s : List ℕ) (at n : ℕ) (d : Diagram) (g : Form) (yields : g ≡ formIn (linesOf (drop at s)) n) where
-  pub out-none : asOut g ≡ none → OutStep s at n d (record { refusal = record { number = 1; line = n }; target = 0; next = 0 })
-  out-none e = record { goes-on = λ k. out-missing (linesOf (drop at s)) n k d _ (ap asOut (sym yields) ∙ e) }
+  module _ (f : OutForm) (is : g ≡ form.Out f) where
+    out-found :
+        due outForm n (linesOf (drop at s))
+        ≡ done (record { vals = f .number ∷ f .target ∷ []; later = afterFirst (linesOf (drop at s)) })
+    out-found = due-out (linesOf (drop at s)) n _ (ap asOut (sym yields) ∙ out-form g f is)
 
-  module _ (f : OutForm) (due : g ≡ form.Out f) (k : ℕ) (fault : k ≡ outFault d (f .number) (f .target)) where
-    out-whole :
-        (j : ℕ)
-        → readOuts (suc j) d n (linesOf (drop at s))
-        ≡ unless (outFault d (f .number) (f .target)) n (readOuts j (withOut d (f .target)) (n + 1) (afterFirst (linesOf (drop at s))))
-    out-whole j =
-        out-due (linesOf (drop at s)) n j d (f .number ∷ f .target ∷ []) (ap asOut (sym yields) ∙ out-form g f due)
+    pub out-inside : lineEnd s at < length s
+    out-inside = due-inside outForm n s at _ out-found
 
-    pub out-stops : (k ≡ 0 → ⊥) → OutStep s at n d (record { refusal = record { number = k; line = n }; target = 0; next = 0 })
-    out-stops q = record { goes-on = λ j. stops k _ n _ _ _ fault (out-whole j) q }
+    module _ (d : Diagram) (k : ℕ) (fault : k ≡ outFault d (f .number) (f .target)) where
+      pub out-stops : (k ≡ 0 → ⊥) → record { refusal = record { number = k; line = n }; target = 0; next = 0 } ≡ outLine s at n d
+      unfolding outLine outAnswer outFaultOf refusalOf numberOf lineOf valueOf
+      out-stops q = rw (line-stops outForm (outFaultOf d) n _ _ _ out-found k fault q)
 
-    pub out-goes :
-        k ≡ 0
-        → (next : ℕ)
-        → linesOf (drop next s) ≡ afterFirst (linesOf (drop at s))
-        → OutStep s at n d (record { refusal = record { number = 0; line = 0 }; target = f .target; next = next })
-    out-goes q next e =
-        record { goes-on = λ j. goes k _ n _ _ _ fault (out-whole j) q (ap (readOuts j (withOut d (f .target)) (n + 1)) (sym e)) }
+      pub out-goes :
+          k ≡ 0
+          → (end : ℕ)
+          → end ≡ lineEnd s at
+          → record { refusal = record { number = 0; line = 0 }; target = f .target; next = end + 1 } ≡ outLine s at n d
+      unfolding outLine outAnswer outFaultOf refusalOf numberOf lineOf valueOf
+      out-goes q end e = rw (e, line-goes outForm (outFaultOf d) n _ _ _ out-found k fault q)
 
-module _ (s : List ℕ) (at n : ℕ) (g : Form) (yields : g ≡ formIn (linesOf (drop at s)) n) where
-  pub end-none : asEnd g ≡ none → EndStep s at n (record { number = 1; line = n })
-  end-none e = record { goes-on = λ d. end-missing (linesOf (drop at s)) n d _ (ap asEnd (sym yields) ∙ e) }
+  pub end-none : asEnd g ≡ none → record { number = 1; line = n } ≡ lastLine s at n
+  unfolding lastLine endDue _then_ refusalOf numberOf lineOf
+  end-none e = rw (no-end (linesOf (drop at s)) n (ap asEnd (sym yields) ∙ e))
 
-  module _ (due : g ≡ form.End) (next : ℕ) (past : linesOf (drop next s) ≡ afterFirst (linesOf (drop at s))) where
-    end-whole :
-        (d : Diagram)
-        → readEnd d n (linesOf (drop at s))
-        ≡ unless (lowest ((10 when follows (linesOf (drop next s))) ∷ [])) (n + 1) (done (record { diagram = d; last = n }))
-    end-whole d =
-        rw past (end-due (linesOf (drop at s)) n d [] (ap asEnd (sym yields) ∙ end-form g due))
+  module _ (is : g ≡ form.End) where
+    end-found : due endForm n (linesOf (drop at s)) ≡ done (record { vals = []; later = afterFirst (linesOf (drop at s)) })
+    end-found = due-end (linesOf (drop at s)) n _ (ap asEnd (sym yields) ∙ end-form g is)
 
-    pub end-stops : next < length s → EndStep s at n (record { number = 10; line = n + 1 })
-    unfolding lowest
-    end-stops more = record { goes-on = λ d. rw (follows-yes s next more) at (end-whole d) }
+    pub end-inside : lineEnd s at < length s
+    end-inside = due-inside endForm n s at _ end-found
 
-    pub end-goes : length s ≤ next → EndStep s at n (record { number = 0; line = 0 })
-    unfolding lowest unless
-    end-goes last = record { goes-on = λ d. rw (follows-no s next last) at (end-whole d) }
+    module _ (end : ℕ) (e : end ≡ lineEnd s at) where
+      end-whole :
+          endDue n (linesOf (drop at s))
+          ≡ unless (lowest ((10 when follows (linesOf (drop (end + 1) s))) ∷ [])) (n + 1) (done [])
+      unfolding endDue _then_
+      end-whole = rw (end-found, lines-after s at end-inside, e)
+
+      pub end-stops : end + 1 < length s → record { number = 10; line = n + 1 } ≡ lastLine s at n
+      unfolding lastLine lowest unless refusalOf numberOf lineOf
+      end-stops more = rw (end-whole, follows-yes s (end + 1) more)
+
+      pub end-goes : length s ≤ end + 1 → record { number = 0; line = 0 } ≡ lastLine s at n
+      unfolding lastLine lowest unless refusalOf numberOf lineOf
+      end-goes last = rw (end-whole, follows-no s (end + 1) last)
 
 -- the figures of a line without a fault fit 16 bits
 pub node-small :

@@ -1,6 +1,7 @@
 pub mod Accepted
 pub mod Again
 pub mod Due
+pub mod LineLaws
 pub mod Refusals
 pub mod Entries
 pub mod Filled

@@ -17,22 +17,24 @@ use Rattle.jobs.specs.declared.HeadLine.{HeadLine}
 use Rattle.jobs.specs.declared.OneLine.{OneLine}
 use Rattle.jobs.specs.declared.NodeLine.{NodeLine}
 use Rattle.jobs.specs.declared.OutLine.{OutLine}
-use Rattle.jobs.specs.Reading.{readOuts, readNodes}
-use Rattle.jobs.specs.Steps.{HeadStep, OneStep, OpeningStep, NodeStep, OutStep, Clear, AllClear, NodesStep, OutsStep}
-use Rattle.jobs.proofs.Due.{stops, no-sizes}
+use Rattle.jobs.specs.Reading.{readOuts, readNodes, readText}
+use Rattle.jobs.specs.Steps.{OpeningStep, Clear, AllClear, NodesStep, OutsStep}
+use Rattle.jobs.proofs.Due.{stops}
+use Rattle.jobs.proofs.LineLaws.{HeadStep, OneStep, NodeStep, OutStep, no-sizes}
 
 -- the first two lines
-module _ (s : List ℕ) (a : HeadLine) (first : HeadStep s a) where
+module _ (s : List ℕ) (a : HeadLine) (first : HeadStep s 0 1 a) where
   pub opening-stops :
       (a .refusal .number ≡ 0 → ⊥)
       → OpeningStep s (record { refusal = a .refusal; switches = 0; one = 0; nodes = 0; outputs = 0; next = 0 })
+  unfolding readText
   opening-stops h =
       record { goes-on = stops (a .refusal .number) _ (a .refusal .line) _ _ _ refl (first .goes-on) h; sized = no-sizes }
 
   pub opening-goes :
       a .refusal .number ≡ 0
       → (b : OneLine)
-      → OneStep s (a .next) b
+      → OneStep s (a .next) 2 b
       → OpeningStep s (record {
         refusal = b .refusal;
         switches = a .switches;
@@ -41,6 +43,7 @@ module _ (s : List ℕ) (a : HeadLine) (first : HeadStep s a) where
         outputs = a .outputs;
         next = b .next;
       })
+  unfolding readText
   opening-goes h b second =
       record {
         goes-on =

@@ -28,7 +28,6 @@ use Rattle.jobs.specs.Steps.{
   OpeningStep,
   NodesStep,
   OutsStep,
-  EndStep,
   sizeTested,
   outlined,
   endLine,
@@ -37,6 +36,7 @@ use Rattle.jobs.specs.Steps.{
 }
 use Rattle.jobs.proofs.Accepted.{read-end}
 use Rattle.jobs.proofs.Due.{unless-some}
+use Rattle.jobs.proofs.LineLaws.{EndStep}
 use Rattle.jobs.proofs.Refusals.{accepted-done}
 use Rattle.jobs.proofs.Entries.{Holds, holds-fields, stored-held, zeros-held, padded-take}
 

@@ -1,4 +1,5 @@
 pub mod Reading
 pub mod Job
 pub mod Answer
+pub mod LineSteps
 pub mod Steps

@@ -1,6 +1,6 @@
 -- What each step of the reader says of the reading that document 01 defines: how the reading goes on from the line, or the refusal at
 -- which it stops.
-use Prim.Native.Nat.{ℕ, suc, _+_, _≤_}
+use Prim.Native.Nat.{ℕ, _+_, _≤_}
 use mathlib.Core.Path.{_≡_}
 use mathlib.Core.List.{List, [], _∷_}
 use lib.ListN.{length, getD, take, drop}
@@ -8,20 +8,16 @@ use Rattle.common.specs.Limits.{maxSwitches, maxNodes, maxOutputs}
 use Rattle.common.specs.Outcome.{Outcome, done, _then_, _when_, lowest, unless}
 use Rattle.common.specs.declared.Refusal.{Refusal}
 use Rattle.figures.specs.Line.{linesOf}
-use Rattle.diagram.specs.Diagram.{Diagram, bare, withNode, withOut}
+use Rattle.diagram.specs.Diagram.{Diagram, bare}
 use Rattle.diagram.specs.Stored.{stored}
 use Rattle.diagram.specs.Wires.{tooLarge}
-use Rattle.jobs.specs.declared.HeadLine.{HeadLine}
-use Rattle.jobs.specs.declared.OneLine.{OneLine}
-use Rattle.jobs.specs.declared.NodeLine.{NodeLine}
-use Rattle.jobs.specs.declared.OutLine.{OutLine}
 use Rattle.jobs.specs.declared.Opening.{Opening}
 use Rattle.jobs.specs.declared.NodesRead.{NodesRead}
 use Rattle.jobs.specs.declared.OutsRead.{OutsRead}
 use Rattle.jobs.specs.declared.JobRead.{JobRead}
 use Rattle.jobs.specs.Answer.{jobRead, fieldsOf}
 use Rattle.jobs.specs.Job.{accepted, table}
-use Rattle.jobs.specs.Reading.{ReadText, readEnd, readOuts, readNodes, readOne, readText}
+use Rattle.jobs.specs.Reading.{ReadText, readEnd, readOuts, readNodes, readText}
 
 -- what follows, unless there is a refusal
 abbrev pub unlessRefused : {A : Type 0} → Refusal → Outcome A → Outcome A
@@ -33,41 +29,12 @@ pub record Sized (v n k : ℕ) : Type 0 where
   pub nodes-most : n ≤ maxNodes
   pub outputs-most : k ≤ maxOutputs
 
--- the text s after its first line
-pub record HeadStep (s : List ℕ) (r : HeadLine) : Type 0 where
-  pub goes-on :
-      readText s
-      ≡ unlessRefused (r .refusal) (readOne (r .switches) (r .nodes) (r .outputs) 2 (linesOf (drop (r .next) s)))
-  pub sized : Sized (r .switches) (r .nodes) (r .outputs)
-
--- and after its second, which starts at a position
-pub record OneStep (s : List ℕ) (at : ℕ) (r : OneLine) : Type 0 where
-  pub goes-on :
-      (v m k : ℕ)
-      → readOne v m k 2 (linesOf (drop at s))
-      ≡ unlessRefused (r .refusal) (readNodes m k (bare v (r .one)) 3 (linesOf (drop (r .next) s)))
-
--- after both
+-- the text s after its first two lines
 pub record OpeningStep (s : List ℕ) (r : Opening) : Type 0 where
   pub goes-on :
       readText s
       ≡ unlessRefused (r .refusal) (readNodes (r .nodes) (r .outputs) (bare (r .switches) (r .one)) 3 (linesOf (drop (r .next) s)))
   pub sized : Sized (r .switches) (r .nodes) (r .outputs)
-
--- after a node's line, number n of the text, which starts at a position; d is what the lines before it say
-pub record NodeStep (s : List ℕ) (at n : ℕ) (d : Diagram) (r : NodeLine) : Type 0 where
-  pub goes-on :
-      (m k : ℕ)
-      → readNodes (suc m) k d n (linesOf (drop at s))
-      ≡ unlessRefused (r .refusal)
-      (readNodes m k (withNode d (record { x = r .x; l = r .l; h = r .h; t = r .t })) (n + 1) (linesOf (drop (r .next) s)))
-
--- after an output's line
-pub record OutStep (s : List ℕ) (at n : ℕ) (d : Diagram) (r : OutLine) : Type 0 where
-  pub goes-on :
-      (k : ℕ)
-      → readOuts (suc k) d n (linesOf (drop at s))
-      ≡ unlessRefused (r .refusal) (readOuts k (withOut d (r .target)) (n + 1) (linesOf (drop (r .next) s)))
 
 -- an array of the table that holds zeros from entry k on
 pub record Clear (k : ℕ) (xs : List ℕ) : Type 0 where
@@ -96,10 +63,6 @@ pub record OutsStep (s : List ℕ) (at v one n k : ℕ) (xs ls hs ts : List ℕ)
       ≡ unlessRefused (r .refusal) (readEnd (stored v one n xs ls hs ts (take k (r .outs))) (3 + n + k) (linesOf (drop (r .next) s)))
   pub entries : length (r .outs) ≡ maxOutputs
   pub past : (i : ℕ) → k ≤ i → getD (r .outs) i 0 ≡ 0
-
--- after the line of `(end)`
-pub record EndStep (s : List ℕ) (at n : ℕ) (r : Refusal) : Type 0 where
-  pub goes-on : (d : Diagram) → readEnd d n (linesOf (drop at s)) ≡ unlessRefused r (done (record { diagram = d; last = n }))
 
 -- ground 11, on a text that was read: "R or C exceeds 128; the line is that of `(end)`"
 unfoldable pub sizeTested : Outcome ReadText → Outcome Diagram

@@ -11,26 +11,17 @@ use forms::Form;
 ghost use mathlib.Core.Path.{_≡_};
 ghost use mathlib.Core.List.{List, []};
 ghost use Prim.Native.Nat.{ℕ, _≤_, _<_};
-ghost use lib.ListN.{length, drop};
+ghost use lib.ListN.{length};
 ghost use Rattle.common.specs.Limits.{maxNodes};
-ghost use Rattle.figures.specs.Line.{linesOf, afterFirst};
 ghost use Rattle.diagram.specs.Stored.{stored};
-ghost use Rattle.jobs.specs.Steps.{HeadStep, OneStep, NodeStep, OutStep, EndStep};
-
-// The position past the line that starts at a position; the same position where no line feed ends it.
-fn next_line(text: &[u8], at: usize) -> usize
-    ensures { λ r. ⌜ linesOf (drop r (now (text .entry))) ≡ afterFirst (linesOf (drop at (now (text .entry)))) ⌝ }
-{
-    let end = figures::line_end(text, at);
-    if end < text.len() { end + 1 } else { at }
-}
+ghost use Rattle.jobs.specs.LineSteps.{headLine, oneLine, nodeLine, outLine, lastLine};
 
 // The answers for a line with a refusal.
-fn no_head(number: u32) -> HeadLine
-    ensures { λ r. ⌜ r ≡ record { refusal = record { number = number; line = 1 }; switches = 0; nodes = 0; outputs = 0; next = 0 } ⌝ }
+fn no_head(number: u32, line: u32) -> HeadLine
+    ensures { λ r. ⌜ r ≡ record { refusal = record { number = number; line = line }; switches = 0; nodes = 0; outputs = 0; next = 0 } ⌝ }
 {
     HeadLine {
-        refusal: Refusal { number, line: 1 },
+        refusal: Refusal { number, line },
         switches: 0,
         nodes: 0,
         outputs: 0,
@@ -51,33 +42,33 @@ fn no_node(number: u32, line: u32) -> NodeLine
     }
 }
 
-// Line 1, `(job V N K)`: grounds 1 and 2.
-pub fn head_line(text: &[u8]) -> HeadLine
-    ensures { λ r. ⌜ HeadStep (now (text .entry)) r ⌝ }
+// The first line, `(job V N K)`: grounds 1 and 2.
+pub fn head_line(text: &[u8], line: u32) -> HeadLine
+    ensures { λ r. ⌜ r ≡ headLine (now (text .entry)) 0 line ⌝ }
 {
-    let Form::Job(f) = forms::form_at(text, 0, 1) else {
-        return no_head(1);
+    let Form::Job(f) = forms::form_at(text, 0, line) else {
+        return no_head(1, line);
     };
     let number = grounds::head_fault(f.switches, f.nodes, f.outputs);
     if number != 0 {
-        return no_head(number);
+        return no_head(number, line);
     }
     HeadLine {
         refusal: Refusal { number: 0, line: 0 },
         switches: f.switches as u16,
         nodes: f.nodes as u16,
         outputs: f.outputs as u16,
-        next: next_line(text, 0),
+        next: figures::line_end(text, 0) + 1,
     }
 }
 
-// Line 2, `(one T)`: grounds 1 and 9.
-pub fn one_line(text: &[u8], at: usize) -> OneLine
-    ensures { λ r. ⌜ OneStep (now (text .entry)) at r ⌝ }
+// The line `(one T)`: grounds 1 and 9.
+pub fn one_line(text: &[u8], at: usize, line: u32) -> OneLine
+    ensures { λ r. ⌜ r ≡ oneLine (now (text .entry)) at line ⌝ }
 {
-    let Form::One(t) = forms::form_at(text, at, 2) else {
+    let Form::One(t) = forms::form_at(text, at, line) else {
         return OneLine {
-            refusal: Refusal { number: 1, line: 2 },
+            refusal: Refusal { number: 1, line },
             one: 0,
             next: 0,
         };
@@ -86,7 +77,7 @@ pub fn one_line(text: &[u8], at: usize) -> OneLine
     let number = grounds::one_fault(one);
     if number != 0 {
         return OneLine {
-            refusal: Refusal { number, line: 2 },
+            refusal: Refusal { number, line },
             one: 0,
             next: 0,
         };
@@ -94,7 +85,7 @@ pub fn one_line(text: &[u8], at: usize) -> OneLine
     OneLine {
         refusal: Refusal { number: 0, line: 0 },
         one,
-        next: next_line(text, at),
+        next: figures::line_end(text, at) + 1,
     }
 }
 
@@ -113,7 +104,7 @@ pub fn node_line(
 ) -> NodeLine
     requires { ⌜ n ≤ maxNodes ⌝ }
     ensures { λ r.
-        ⌜ NodeStep (now (text .entry)) at line (stored v one n (now (xs .entry)) (now (ls .entry)) (now (hs .entry)) (now (ts .entry)) []) r ⌝ }
+        ⌜ r ≡ nodeLine (now (text .entry)) at line (stored v one n (now (xs .entry)) (now (ls .entry)) (now (hs .entry)) (now (ts .entry)) []) ⌝ }
 {
     let Form::Node(f) = forms::form_at(text, at, line) else {
         return no_node(1, line);
@@ -129,7 +120,7 @@ pub fn node_line(
         l: f.l as u16,
         h: f.h as u16,
         t,
-        next: next_line(text, at),
+        next: figures::line_end(text, at) + 1,
     }
 }
 
@@ -147,7 +138,7 @@ pub fn out_line(
     ensures { λ r.
         ⌜ ((v : ℕ) (xs ls hs outs : List ℕ)
         → length outs ≡ k
-        → OutStep (now (text .entry)) at line (stored v one n xs ls hs (now (ts .entry)) outs) r) ⌝ }
+        → r ≡ outLine (now (text .entry)) at line (stored v one n xs ls hs (now (ts .entry)) outs)) ⌝ }
 {
     let Form::Out(f) = forms::form_at(text, at, line) else {
         return OutLine {
@@ -167,19 +158,19 @@ pub fn out_line(
     OutLine {
         refusal: Refusal { number: 0, line: 0 },
         target: f.target as u16,
-        next: next_line(text, at),
+        next: figures::line_end(text, at) + 1,
     }
 }
 
 // The line `(end)`: grounds 1 and 10.
 pub fn end_line(text: &[u8], at: usize, line: u32) -> Refusal
     requires { ⌜ line < 1000 ⌝ }
-    ensures { λ r. ⌜ EndStep (now (text .entry)) at line r ⌝ }
+    ensures { λ r. ⌜ r ≡ lastLine (now (text .entry)) at line ⌝ }
 {
     let Form::End = forms::form_at(text, at, line) else {
         return Refusal { number: 1, line };
     };
-    if next_line(text, at) < text.len() {
+    if figures::line_end(text, at) + 1 < text.len() {
         return Refusal {
             number: 10,
             line: line + 1,

@@ -46,7 +46,7 @@ fn clear_table(
 fn read_opening(text: &[u8]) -> Opening
     ensures { λ r. ⌜ OpeningStep (now (text .entry)) r ⌝ }
 {
-    let head = lines::head_line(text);
+    let head = lines::head_line(text, 1);
     let first = head.refusal;
     if first.number != 0 {
         return Opening {
@@ -58,7 +58,7 @@ fn read_opening(text: &[u8]) -> Opening
             next: 0,
         };
     }
-    let one = lines::one_line(text, head.next);
+    let one = lines::one_line(text, head.next, 2);
     let second = one.refusal;
     Opening {
         refusal: second,

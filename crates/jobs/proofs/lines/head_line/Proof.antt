@@ -1,8 +1,10 @@
 -- `jobs::lines::head_line` meets its contract. Assumes nothing.
+use mathlib.Core.Path.{_∙_}
 use native.Mathlib.Omega.{arith}
+use denote.Ref.{now}
 use Rattle.common.specs.Limits.{maxSwitches, maxNodes, maxOutputs}
 use Rattle.forms.proofs.Cases.{not-job}
-use Rattle.jobs.proofs.Due.{head-none, head-stops, head-sized, head-goes}
+use Rattle.jobs.proofs.Due.{head-none, head-inside, head-stops, head-sized, head-goes}
 use borrow.Author.Needs.{needs}
 use Rattle.jobs.proofs.lines.head_line.Statement.{statement}
 use Rattle.jobs.proofs.lines.head_line.Tie as tie
@@ -18,7 +20,7 @@ no-head-requires c κs = search needs
 
 returns : tie.Need-returns
 returns c =
-    rw (c .no-head .ensures) (head-none _ _ (c .before .before .form-at .ensures) (not-job _ (c .before .match .keys2)))
+    c .no-head .ensures ∙ head-none _ _ _ _ (c .before .before .form-at .ensures) (not-job _ (c .before .match .keys2))
 
 head-fault-requires : tie.Need-head-fault-requires
 head-fault-requires c κs = search needs
@@ -28,33 +30,42 @@ no-head-requires-2 c κs = search needs
 
 returns-2 : tie.Need-returns-2
 returns-2 c =
-    rw (c .no-head2 .ensures)
-    (head-stops _ _ (c .before .before .before .before .before .before .form-at .ensures) _ (c .before .before .before .before .f .given .1) _ (c .before .before .head-fault .ensures) (c .before .if1 .taken))
-
-cast-t7 : tie.Need-cast-t7
-unfolding maxSwitches
-cast-t7 c =
-    let sized = head-sized _ _ (c .before .before .before .before .before .before .form-at .ensures) _ (c .before .before .before .before .f .given .1) _ (c .before .before .head-fault .ensures) (c .before .if1 .left) in
-    omega (arith, sized .switches-most)
+    c .no-head2 .ensures ∙ head-stops _ _ _ _ (c .before .before .before .before .before .before .form-at .ensures) _ (c .before .before .before .before .f .given .1) _ (c .before .before .head-fault .ensures) (c .before .if1 .taken)
 
 cast-t8 : tie.Need-cast-t8
-unfolding maxNodes
+unfolding maxSwitches
 cast-t8 c =
-    let sized = head-sized _ _ (c .before .before .before .before .before .before .before .form-at .ensures) _ (c .before .before .before .before .before .f .given .1) _ (c .before .before .before .head-fault .ensures) (c .before .before .if1 .left) in
-    omega (arith, sized .nodes-most)
+    let a = c .before .before .before .before .before .before .before .before .args in
+    let sized = head-sized (now (a .text)) 0 (a .line) _ (c .before .before .before .before .before .before .form-at .ensures) _ (c .before .before .before .before .f .given .1) _ (c .before .before .head-fault .ensures) (c .before .if1 .left) in
+    omega (arith, sized .switches-most)
 
 cast-t9 : tie.Need-cast-t9
-unfolding maxOutputs
+unfolding maxNodes
 cast-t9 c =
-    let sized = head-sized _ _ (c .before .before .before .before .before .before .before .before .form-at .ensures) _ (c .before .before .before .before .before .before .f .given .1) _ (c .before .before .before .before .head-fault .ensures) (c .before .before .before .if1 .left) in
+    let a = c .before .before .before .before .before .before .before .before .before .args in
+    let sized = head-sized (now (a .text)) 0 (a .line) _ (c .before .before .before .before .before .before .before .form-at .ensures) _ (c .before .before .before .before .before .f .given .1) _ (c .before .before .before .head-fault .ensures) (c .before .before .if1 .left) in
+    omega (arith, sized .nodes-most)
+
+cast-t10 : tie.Need-cast-t10
+unfolding maxOutputs
+cast-t10 c =
+    let a = c .before .before .before .before .before .before .before .before .before .before .args in
+    let sized = head-sized (now (a .text)) 0 (a .line) _ (c .before .before .before .before .before .before .before .before .form-at .ensures) _ (c .before .before .before .before .before .before .f .given .1) _ (c .before .before .before .before .head-fault .ensures) (c .before .before .before .if1 .left) in
     omega (arith, sized .outputs-most)
 
-next-line-requires : tie.Need-next-line-requires
-next-line-requires c κs = search needs
+line-end-requires : tie.Need-line-end-requires
+line-end-requires c κs = search needs
+
+add-t12 : tie.Need-add-t12
+add-t12 c =
+    let a = c .before .before .before .before .before .before .before .before .before .before .before .args in
+    let k = c .line-end .ensures in
+    let inside = head-inside (now (a .text)) 0 (a .line) _ (c .before .before .before .before .before .before .before .before .before .form-at .ensures) _ (c .before .before .before .before .before .before .before .f .given .1) in
+    omega arith
 
 returns-3 : tie.Need-returns-3
 returns-3 c =
-    head-goes _ _ (c .before .before .before .before .before .before .before .before .before .form-at .ensures) _ (c .before .before .before .before .before .before .before .f .given .1) _ (c .before .before .before .before .before .head-fault .ensures) (c .before .before .before .before .if1 .left) _ (c .next-line .ensures)
+    head-goes _ _ _ _ (c .before .before .before .before .before .before .before .before .before .form-at .ensures) _ (c .before .before .before .before .before .before .before .f .given .1) _ (c .before .before .before .before .before .head-fault .ensures) (c .before .before .before .before .if1 .left) _ (c .line-end .ensures)
 
 pub head-line-spec : {M : Type 1} → statement M
 head-line-spec =
@@ -67,8 +78,9 @@ head-line-spec =
     head-fault-requires
     no-head-requires-2
     returns-2
-    cast-t7
     cast-t8
     cast-t9
-    next-line-requires
+    cast-t10
+    line-end-requires
+    add-t12
     returns-3)

@@ -1,11 +1,11 @@
 -- `jobs::lines::node_line` meets its contract. Assumes nothing.
+use mathlib.Core.Path.{_∙_}
 use mathlib.Core.List.{[]}
 use native.Mathlib.Omega.{arith}
 use Rattle.common.specs.Limits.{maxNodes}
 use denote.Ref.{now}
-use Rattle.diagram.specs.Diagram.{bare}
 use Rattle.forms.proofs.Cases.{not-node}
-use Rattle.jobs.proofs.Due.{node-none, node-most, node-stops, node-goes, node-small}
+use Rattle.jobs.proofs.Due.{node-none, node-most, node-inside, node-stops, node-goes, node-small}
 use borrow.Author.Needs.{needs}
 use Rattle.jobs.proofs.lines.node_line.Statement.{statement}
 use Rattle.jobs.proofs.lines.node_line.Tie as tie
@@ -21,12 +21,12 @@ no-node-requires c κs = search needs
 
 returns : tie.Need-returns
 returns c =
-    rw (c .no-node .ensures) (node-none _ _ _ _ _ (c .before .before .form-at .ensures) (not-node _ (c .before .match .keys2)))
+    c .no-node .ensures ∙ node-none _ _ _ _ (c .before .before .form-at .ensures) _ (not-node _ (c .before .match .keys2))
 
 cast-t : tie.Need-cast-t
 cast-t c =
     let a = c .before .before .before .before .before .before .args in
-    omega (arith, node-most (now (a .text)) (a .at) (a .line) (bare 0 0) _ (c .before .before .before .before .form-at .ensures) _ (c .before .before .f .given .1))
+    omega (arith, node-most (now (a .text)) (a .at) (a .line) _ (c .before .before .before .before .form-at .ensures) _ (c .before .before .f .given .1))
 
 node-fault-requires : tie.Need-node-fault-requires
 node-fault-requires c κs = search needs
@@ -36,8 +36,8 @@ no-node-requires-2 c κs = search needs
 
 returns-2 : tie.Need-returns-2
 returns-2 c =
-    rw (c .no-node2 .ensures)
-    (node-stops _ _ _ _ _ (c .before .before .before .before .before .before .before .form-at .ensures) _ (c .before .before .before .before .before .f .given .1) _ (c .before .before .node-fault .ensures []) (c .before .if1 .taken))
+    c .no-node2 .ensures
+    ∙ node-stops _ _ _ _ (c .before .before .before .before .before .before .before .form-at .ensures) _ (c .before .before .before .before .before .f .given .1) _ _ (c .before .before .node-fault .ensures []) (c .before .if1 .taken)
 
 cast-t17 : tie.Need-cast-t17
 cast-t17 c =
@@ -56,12 +56,19 @@ cast-t19 c =
     let small = node-small _ _ _ _ _ _ _ _ _ _ _ (c .before .before .before .before .node-fault .ensures []) (c .before .before .before .if1 .left) in
     omega (arith, small .2)
 
-next-line-requires : tie.Need-next-line-requires
-next-line-requires c κs = search needs
+line-end-requires : tie.Need-line-end-requires
+line-end-requires c κs = search needs
+
+add-t21 : tie.Need-add-t21
+add-t21 c =
+    let a = c .before .before .before .before .before .before .before .before .before .before .before .before .args in
+    let k = c .line-end .ensures in
+    let inside = node-inside (now (a .text)) (a .at) (a .line) _ (c .before .before .before .before .before .before .before .before .before .before .form-at .ensures) _ (c .before .before .before .before .before .before .before .before .f .given .1) in
+    omega (arith, c .before .before .before .before .before .before .before .before .before .before .before .before .good .0)
 
 returns-3 : tie.Need-returns-3
 returns-3 c =
-    node-goes _ _ _ _ _ (c .before .before .before .before .before .before .before .before .before .before .form-at .ensures) _ (c .before .before .before .before .before .before .before .before .f .given .1) _ (c .before .before .before .before .before .node-fault .ensures []) (c .before .before .before .before .if1 .left) _ (c .next-line .ensures)
+    node-goes _ _ _ _ (c .before .before .before .before .before .before .before .before .before .before .form-at .ensures) _ (c .before .before .before .before .before .before .before .before .f .given .1) _ _ (c .before .before .before .before .before .node-fault .ensures []) (c .before .before .before .before .if1 .left) _ (c .line-end .ensures)
 
 pub node-line-spec : {M : Type 1} → statement M
 node-line-spec =
@@ -78,5 +85,6 @@ node-line-spec =
     cast-t17
     cast-t18
     cast-t19
-    next-line-requires
+    line-end-requires
+    add-t21
     returns-3)

@@ -2,6 +2,7 @@
 use mathlib.Core.Path.{sym, _∙_}
 use native.Mathlib.Omega.{arith}
 use Rattle.common.specs.Limits.{maxNodes, maxOutputs}
+use Rattle.jobs.proofs.LineLaws.{end-step}
 use Rattle.jobs.proofs.Whole.{end-refused, end-large, end-done}
 use borrow.Author.Needs.{needs}
 use Rattle.jobs.proofs.reading.finish.Statement.{statement}
@@ -36,7 +37,7 @@ no-job-requires c κs = search needs
 
 returns : tie.Need-returns
 returns c =
-    λ xs ls hs. c .no-job .ensures ∙ end-refused _ xs ls hs _ _ _ _ (c .before .before .before .end-line .ensures) (c .before .if1 .taken)
+    λ xs ls hs. c .no-job .ensures ∙ end-refused _ xs ls hs _ _ _ _ (end-step _ _ _ _ (c .before .before .before .end-line .ensures)) (c .before .if1 .taken)
 
 too-large-requires : tie.Need-too-large-requires
 too-large-requires c κs = search needs
@@ -48,13 +49,13 @@ returns-2 : tie.Need-returns-2
 returns-2 c =
     λ xs ls hs.
     c .no-job2 .ensures
-    ∙ end-large _ xs ls hs _ _ _ _ (c .before .before .before .before .before .before .before .end-line .ensures) (c .before .before .before .before .before .if1 .left)
+    ∙ end-large _ xs ls hs _ _ _ _ (end-step _ _ _ _ (c .before .before .before .before .before .before .before .end-line .ensures)) (c .before .before .before .before .before .if1 .left)
     (sym (c .before .before .too-large .ensures _ xs ls hs) ∙ c .before .if2 .taken)
 
 returns-3 : tie.Need-returns-3
 returns-3 c =
     λ xs ls hs.
-    end-done _ xs ls hs _ _ _ _ (c .before .before .before .before .before .before .end-line .ensures) (c .before .before .before .before .if1 .left)
+    end-done _ xs ls hs _ _ _ _ (end-step _ _ _ _ (c .before .before .before .before .before .before .end-line .ensures)) (c .before .before .before .before .if1 .left)
     (sym (c .before .too-large .ensures _ xs ls hs) ∙ c .if2 .left)
     (c .before .before .before .before .before .before .before .before .before .before .pre)
 

@@ -2,6 +2,7 @@
 use Prim.Native.Nat.{_-_}
 use native.Mathlib.Omega.{arith}
 use Rattle.common.specs.Limits.{maxNodes}
+use Rattle.jobs.proofs.LineLaws.{node-step}
 use Rattle.jobs.proofs.Turns.{NodesAt, nodes-start, nodes-stops, nodes-more, nodes-done}
 use borrow.Author.Needs.{needs}
 use Rattle.jobs.proofs.reading.read_nodes.Statement.{statement}
@@ -39,7 +40,7 @@ node-line-requires c κs =
 
 returns : tie.Need-returns Inv-loop μ-loop
 returns c =
-    nodes-stops _ _ _ _ _ _ _ _ _ _ _ (c .before .before .before .before .before .before .before .before .before .loop .inv) _ (c .before .before .before .node-line .ensures) (c .before .before .before .before .before .before .before .before .loop-test .taken) (c .if1 .taken)
+    nodes-stops _ _ _ _ _ _ _ _ _ _ _ (c .before .before .before .before .before .before .before .before .before .loop .inv) _ (node-step _ _ _ _ _ (c .before .before .before .node-line .ensures)) (c .before .before .before .before .before .before .before .before .loop-test .taken) (c .if1 .taken)
 
 mul-xs : tie.Need-mul-xs Inv-loop μ-loop
 unfolding maxNodes
@@ -93,7 +94,7 @@ loop-less c =
 
 loop-again : tie.Need-loop-again Inv-loop μ-loop
 loop-again c =
-    nodes-more _ _ _ _ _ _ _ _ _ _ _ (c .before .before .before .before .before .before .before .before .before .loop .inv) _ (c .before .before .before .node-line .ensures) (c .before .before .before .before .before .before .before .before .loop-test .taken) (c .before .before .before .before .before .before .before .before .before .before .before .before .before .before .before .before .pre) (c .if1 .left)
+    nodes-more _ _ _ _ _ _ _ _ _ _ _ (c .before .before .before .before .before .before .before .before .before .loop .inv) _ (node-step _ _ _ _ _ (c .before .before .before .node-line .ensures)) (c .before .before .before .before .before .before .before .before .loop-test .taken) (c .before .before .before .before .before .before .before .before .before .before .before .before .before .before .before .before .pre) (c .if1 .left)
 
 returns-2 : tie.Need-returns-2 Inv-loop μ-loop
 returns-2 c =

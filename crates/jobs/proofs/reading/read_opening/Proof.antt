@@ -1,4 +1,5 @@
 -- `jobs::reading::read_opening` meets its contract. Assumes nothing.
+use Rattle.jobs.proofs.LineLaws.{head-step, one-step}
 use Rattle.jobs.proofs.Turns.{opening-stops, opening-goes}
 use borrow.Author.Needs.{needs}
 use Rattle.jobs.proofs.reading.read_opening.Statement.{statement}
@@ -9,14 +10,14 @@ head-line-requires c κs = search needs
 
 returns : tie.Need-returns
 returns c =
-    opening-stops _ _ (c .before .before .before .head-line .ensures) (c .if1 .taken)
+    opening-stops _ _ (head-step _ _ _ _ (c .before .before .before .head-line .ensures)) (c .if1 .taken)
 
 one-line-requires : tie.Need-one-line-requires
 one-line-requires c κs = search needs
 
 returns-2 : tie.Need-returns-2
 returns-2 c =
-    opening-goes _ _ (c .before .before .before .before .before .head-line .ensures) (c .before .before .if1 .left) _ (c .before .one-line .ensures)
+    opening-goes _ _ (head-step _ _ _ _ (c .before .before .before .before .before .head-line .ensures)) (c .before .before .if1 .left) _ (one-step _ _ _ _ (c .before .one-line .ensures))
 
 pub read-opening-spec : {M : Type 1} → statement M
 read-opening-spec = tie.close (tie.spec head-line-requires returns one-line-requires returns-2)

@@ -2,6 +2,7 @@
 use Prim.Native.Nat.{_-_}
 use native.Mathlib.Omega.{arith}
 use Rattle.common.specs.Limits.{maxNodes, maxOutputs}
+use Rattle.jobs.proofs.LineLaws.{out-step}
 use Rattle.jobs.proofs.Turns.{OutsAt, outs-start, outs-count, outs-stops, outs-more, outs-done}
 use Rattle.jobs.proofs.reading.read_outs.Statement.{statement}
 use Rattle.jobs.proofs.reading.read_outs.Tie as tie
@@ -47,7 +48,7 @@ returns c =
     let at-loop = c .before .before .before .before .before in
     let inv = at-loop .loop .inv in
     let count = outs-count _ _ _ _ _ _ _ _ _ inv (c .before .before .before .before .before .before .before .pre .1) in
-    outs-stops _ _ _ _ _ _ _ _ _ inv _ (λ v xs ls hs. c .before .before .before .out-line .ensures v xs ls hs _ count) (c .before .before .before .before .loop-test .taken) (c .if1 .taken)
+    outs-stops _ _ _ _ _ _ _ _ _ inv _ (λ v xs ls hs. out-step _ _ _ _ _ (c .before .before .before .out-line .ensures v xs ls hs _ count)) (c .before .before .before .before .loop-test .taken) (c .if1 .taken)
 
 mul-outs : tie.Need-mul-outs Inv-loop μ-loop
 unfolding maxNodes maxOutputs
@@ -75,7 +76,7 @@ loop-again c =
     let inv = at-loop .loop .inv in
     let few = c .before .before .before .before .before .before .before .pre .1 in
     let count = outs-count _ _ _ _ _ _ _ _ _ inv few in
-    outs-more _ _ _ _ _ _ _ _ _ inv _ (λ v xs ls hs. c .before .before .before .out-line .ensures v xs ls hs _ count) (c .before .before .before .before .loop-test .taken) few (c .if1 .left)
+    outs-more _ _ _ _ _ _ _ _ _ inv _ (λ v xs ls hs. out-step _ _ _ _ _ (c .before .before .before .out-line .ensures v xs ls hs _ count)) (c .before .before .before .before .loop-test .taken) few (c .if1 .left)
 
 returns-2 : tie.Need-returns-2 Inv-loop μ-loop
 returns-2 c =
