@@ -26,10 +26,10 @@ use Rattle.jobs.proofs.LineLaws.{HeadStep, OneStep, NodeStep, OutStep, 
 module _ (s : List ℕ) (a : HeadLine) (first : HeadStep s 0 1 a) where
   pub opening-stops :
       (a .refusal .number ≡ 0 → ⊥)
-      → OpeningStep s (record { refusal = a .refusal; switches = 0; one = 0; nodes = 0; outputs = 0; next = 0 })
+      → OpeningStep s (record { refusal = a .refusal; switches = 0; one = 0; nodes = 0; outputs = 0; line = 0; next = 0 })
   unfolding readText
   opening-stops h =
-      record { goes-on = stops (a .refusal .number) _ (a .refusal .line) _ _ _ refl (first .goes-on) h; sized = no-sizes }
+      record { goes-on = stops (a .refusal .number) _ (a .refusal .line) _ _ _ refl (first .goes-on) h; sized = no-sizes; early = omega arith }
 
   pub opening-goes :
       a .refusal .number ≡ 0
@@ -41,6 +41,7 @@ module _ (s : List ℕ) (a : HeadLine) (first : HeadStep s 0 1 a) where
         one = b .one;
         nodes = a .nodes;
         outputs = a .outputs;
+        line = 3;
         next = b .next;
       })
   unfolding readText
@@ -51,6 +52,7 @@ module _ (s : List ℕ) (a : HeadLine) (first : HeadStep s 0 1 a) where
             ∙ unless-none (a .refusal .number) (a .refusal .line) _ h
             ∙ second .goes-on (a .switches) (a .nodes) (a .outputs);
         sized = first .sized;
+        early = omega arith;
       }
 
 -- zeros past an entry, and past one more
@@ -72,22 +74,22 @@ clear-more : (k n : ℕ) (xs : List ℕ) → k ≤ n → Clear k xs → Clear n 
 clear-more k n xs h q = record { entries = q .entries; past = λ i past. q .past i (omega arith) }
 
 -- the reader at node line k of n, the lines from a position on
-pub record NodesAt (s : List ℕ) (at v one n : ℕ) (xs ls hs ts : List ℕ) (next k : ℕ) : Type 0 where
+pub record NodesAt (s : List ℕ) (at line v one n : ℕ) (xs ls hs ts : List ℕ) (next k : ℕ) : Type 0 where
   pub within : k ≤ n
   pub clear : AllClear k xs ls hs ts
   pub so-far :
       (j : ℕ)
-      → readNodes n j (bare v one) 3 (linesOf (drop at s))
-      ≡ readNodes (n - k) j (stored v one k xs ls hs ts []) (3 + k) (linesOf (drop next s))
+      → readNodes n j (bare v one) line (linesOf (drop at s))
+      ≡ readNodes (n - k) j (stored v one k xs ls hs ts []) (line + k) (linesOf (drop next s))
 
 pub nodes-start :
-    (s : List ℕ) (at v one n : ℕ) (xs ls hs ts : List ℕ)
+    (s : List ℕ) (at line v one n : ℕ) (xs ls hs ts : List ℕ)
     → xs ≡ zeros maxNodes
     → ls ≡ zeros maxNodes
     → hs ≡ zeros maxNodes
     → ts ≡ zeros maxNodes
-    → NodesAt s at v one n xs ls hs ts at 0
-nodes-start s at v one n xs ls hs ts p q r t =
+    → NodesAt s at line v one n xs ls hs ts at 0
+nodes-start s at line v one n xs ls hs ts p q r t =
     record {
       within = omega arith;
       clear =
@@ -97,28 +99,30 @@ nodes-start s at v one n xs ls hs ts p q r t =
             highs = clear-zeros hs r;
             labels = clear-zeros ts t;
           };
-      so-far = λ j. let e : n - 0 ≡ n = omega arith in rw (e, stored-bare v one xs ls hs ts);
+      so-far = λ j.
+          let e : n - 0 ≡ n = omega arith in
+          let f : line + 0 ≡ line = omega arith in rw (e, f, stored-bare v one xs ls hs ts);
     }
 
-module _ (s : List ℕ) (at v one n : ℕ) (xs ls hs ts : List ℕ) (next k : ℕ) (h : NodesAt s at v one n xs ls hs ts next k) where
-  module _ (r : NodeLine) (line : NodeStep s next (3 + k) (stored v one k xs ls hs ts []) r) (more : k < n) where
+module _ (s : List ℕ) (at line v one n : ℕ) (xs ls hs ts : List ℕ) (next k : ℕ) (h : NodesAt s at line v one n xs ls hs ts next k) where
+  module _ (r : NodeLine) (step : NodeStep s next (line + k) (stored v one k xs ls hs ts []) r) (more : k < n) where
     -- the reading at the line, as the line's step says it
     nodes-line :
         (j : ℕ)
-        → readNodes n j (bare v one) 3 (linesOf (drop at s))
+        → readNodes n j (bare v one) line (linesOf (drop at s))
         ≡ unless (r .refusal .number) (r .refusal .line)
         (readNodes (n - (k + 1)) j
         (withNode (stored v one k xs ls hs ts []) (record { x = r .x; l = r .l; h = r .h; t = r .t }))
-        (3 + k + 1)
+        (line + k + 1)
         (linesOf (drop (r .next) s)))
     nodes-line j =
         let e : n - k ≡ suc (n - (k + 1)) = omega arith in
         h .so-far j
-        ∙ ap (λ (m : ℕ). readNodes m j (stored v one k xs ls hs ts []) (3 + k) (linesOf (drop next s))) e
-        ∙ line .goes-on (n - (k + 1)) j
+        ∙ ap (λ (m : ℕ). readNodes m j (stored v one k xs ls hs ts []) (line + k) (linesOf (drop next s))) e
+        ∙ step .goes-on (n - (k + 1)) j
 
     pub nodes-stops :
-        (r .refusal .number ≡ 0 → ⊥) → NodesStep s at v one n xs ls hs ts (record { refusal = r .refusal; next = next })
+        (r .refusal .number ≡ 0 → ⊥) → NodesStep s at line v one n xs ls hs ts (record { refusal = r .refusal; next = next })
     nodes-stops q =
         record {
           goes-on = λ j. stops (r .refusal .number) _ (r .refusal .line) _ _ _ refl (nodes-line j) q;
@@ -134,7 +138,7 @@ module _ (s : List ℕ) (at v one n : ℕ) (xs ls hs ts : List ℕ) (next k : �
     pub nodes-more :
         n ≤ maxNodes
         → r .refusal .number ≡ 0
-        → NodesAt s at v one n (set xs k (r .x)) (set ls k (r .l)) (set hs k (r .h)) (set ts k (r .t)) (r .next) (k + 1)
+        → NodesAt s at line v one n (set xs k (r .x)) (set ls k (r .l)) (set hs k (r .h)) (set ts k (r .t)) (r .next) (k + 1)
     nodes-more few q =
         let entry =
         stored-node v one k xs ls hs ts [] (r .x) (r .l) (r .h) (r .t)
@@ -142,7 +146,7 @@ module _ (s : List ℕ) (at v one n : ℕ) (xs ls hs ts : List ℕ) (next k : �
         (omega (arith, h .clear .lows .entries))
         (omega (arith, h .clear .highs .entries))
         (omega (arith, h .clear .labels .entries)) in
-        let turn : 3 + k + 1 ≡ 3 + (k + 1) = omega arith in
+        let turn : line + k + 1 ≡ line + (k + 1) = omega arith in
         record {
           within = omega arith;
           clear =
@@ -155,59 +159,59 @@ module _ (s : List ℕ) (at v one n : ℕ) (xs ls hs ts : List ℕ) (next k : �
           so-far = λ j. rw (← turn, entry) (nodes-line j ∙ unless-none (r .refusal .number) (r .refusal .line) _ q);
         }
 
-  pub nodes-done : n ≤ k → NodesStep s at v one n xs ls hs ts (record { refusal = record { number = 0; line = 0 }; next = next })
+  pub nodes-done : n ≤ k → NodesStep s at line v one n xs ls hs ts (record { refusal = record { number = 0; line = 0 }; next = next })
   unfolding unless readNodes
   nodes-done all =
       let e : k ≡ n = omega (arith, h .within) in
       let none : n - n ≡ 0 = omega arith in
-      let now : NodesAt s at v one n xs ls hs ts next n = rw e at h in
+      let now : NodesAt s at line v one n xs ls hs ts next n = rw e at h in
       record { goes-on = λ j. rw none at (now .so-far j); clear = now .clear }
 
 -- the reader at output j of k
-pub record OutsAt (s : List ℕ) (at one n k : ℕ) (ts outs : List ℕ) (next j : ℕ) : Type 0 where
+pub record OutsAt (s : List ℕ) (at line one n k : ℕ) (ts outs : List ℕ) (next j : ℕ) : Type 0 where
   pub within : j ≤ k
   pub entries : length outs ≡ maxOutputs
   pub past : (i : ℕ) → j ≤ i → getD outs i 0 ≡ 0
   pub so-far :
       (v : ℕ) (xs ls hs : List ℕ)
-      → readOuts k (stored v one n xs ls hs ts []) (3 + n) (linesOf (drop at s))
-      ≡ readOuts (k - j) (stored v one n xs ls hs ts (take j outs)) (3 + n + j) (linesOf (drop next s))
+      → readOuts k (stored v one n xs ls hs ts []) line (linesOf (drop at s))
+      ≡ readOuts (k - j) (stored v one n xs ls hs ts (take j outs)) (line + j) (linesOf (drop next s))
 
-pub outs-start : (s : List ℕ) (at one n k : ℕ) (ts : List ℕ) → OutsAt s at one n k ts (zeros maxOutputs) at 0
-outs-start s at one n k ts =
+pub outs-start : (s : List ℕ) (at line one n k : ℕ) (ts : List ℕ) → OutsAt s at line one n k ts (zeros maxOutputs) at 0
+outs-start s at line one n k ts =
     record {
       within = omega arith;
       entries = length-replicate maxOutputs 0;
       past = λ i h. getD-zeros maxOutputs i;
       so-far = λ v xs ls hs.
           let e : k - 0 ≡ k = omega arith in
-          let f : 3 + n + 0 ≡ 3 + n = omega arith in rw (e, f);
+          let f : line + 0 ≡ line = omega arith in rw (e, f);
     }
 
-module _ (s : List ℕ) (at one n k : ℕ) (ts outs : List ℕ) (next j : ℕ) (h : OutsAt s at one n k ts outs next j) where
+module _ (s : List ℕ) (at line one n k : ℕ) (ts outs : List ℕ) (next j : ℕ) (h : OutsAt s at line one n k ts outs next j) where
   pub outs-count : k ≤ maxOutputs → length (take j outs) ≡ j
   outs-count few = length-take-le j outs (omega (arith, h .within, h .entries))
 
   module _
       (r : OutLine)
-      (line : (v : ℕ) (xs ls hs : List ℕ) → OutStep s next (3 + n + j) (stored v one n xs ls hs ts (take j outs)) r)
+      (step : (v : ℕ) (xs ls hs : List ℕ) → OutStep s next (line + j) (stored v one n xs ls hs ts (take j outs)) r)
       (more : j < k)
     where
       outs-line :
           (v : ℕ) (xs ls hs : List ℕ)
-          → readOuts k (stored v one n xs ls hs ts []) (3 + n) (linesOf (drop at s))
+          → readOuts k (stored v one n xs ls hs ts []) line (linesOf (drop at s))
           ≡ unless (r .refusal .number) (r .refusal .line)
-          (readOuts (k - (j + 1)) (withOut (stored v one n xs ls hs ts (take j outs)) (r .target)) (3 + n + j + 1) (linesOf (drop (r .next) s)))
+          (readOuts (k - (j + 1)) (withOut (stored v one n xs ls hs ts (take j outs)) (r .target)) (line + j + 1) (linesOf (drop (r .next) s)))
       outs-line v xs ls hs =
           let e : k - j ≡ suc (k - (j + 1)) = omega arith in
           h .so-far v xs ls hs
-          ∙ ap (λ (m : ℕ). readOuts m (stored v one n xs ls hs ts (take j outs)) (3 + n + j) (linesOf (drop next s))) e
-          ∙ line v xs ls hs .goes-on (k - (j + 1))
+          ∙ ap (λ (m : ℕ). readOuts m (stored v one n xs ls hs ts (take j outs)) (line + j) (linesOf (drop next s))) e
+          ∙ step v xs ls hs .goes-on (k - (j + 1))
 
       pub outs-stops :
           (r .refusal .number ≡ 0 → ⊥)
           → (v : ℕ) (xs ls hs : List ℕ)
-          → OutsStep s at v one n k xs ls hs ts (record { refusal = r .refusal; outs = outs; next = next })
+          → OutsStep s at line v one n k xs ls hs ts (record { refusal = r .refusal; outs = outs; next = next })
       outs-stops q v xs ls hs =
           record {
             goes-on = stops (r .refusal .number) _ (r .refusal .line) _ _ _ refl (outs-line v xs ls hs) q;
@@ -215,9 +219,9 @@ module _ (s : List ℕ) (at one n k : ℕ) (ts outs : List ℕ) (next j : ℕ) (
             past = λ i past. h .past i (omega arith);
           }
 
-      pub outs-more : k ≤ maxOutputs → r .refusal .number ≡ 0 → OutsAt s at one n k ts (set outs j (r .target)) (r .next) (j + 1)
+      pub outs-more : k ≤ maxOutputs → r .refusal .number ≡ 0 → OutsAt s at line one n k ts (set outs j (r .target)) (r .next) (j + 1)
       outs-more few q =
-          let turn : 3 + n + j + 1 ≡ 3 + n + (j + 1) = omega arith in
+          let turn : line + j + 1 ≡ line + (j + 1) = omega arith in
           let room : j < length outs = omega (arith, h .entries) in
           record {
             within = omega arith;
@@ -231,10 +235,10 @@ module _ (s : List ℕ) (at one n k : ℕ) (ts outs : List ℕ) (next j : ℕ) (
   pub outs-done :
       k ≤ j
       → (v : ℕ) (xs ls hs : List ℕ)
-      → OutsStep s at v one n k xs ls hs ts (record { refusal = record { number = 0; line = 0 }; outs = outs; next = next })
+      → OutsStep s at line v one n k xs ls hs ts (record { refusal = record { number = 0; line = 0 }; outs = outs; next = next })
   unfolding unless readOuts
   outs-done all v xs ls hs =
       let e : j ≡ k = omega (arith, h .within) in
       let none : k - k ≡ 0 = omega arith in
-      let now : OutsAt s at one n k ts outs next k = rw e at h in
+      let now : OutsAt s at line one n k ts outs next k = rw e at h in
       record { goes-on = rw none at (now .so-far v xs ls hs); entries = now .entries; past = now .past }

@@ -65,7 +65,7 @@ unfolding sizeTested _then_ lowest unless
 small-done o t e small = rw (e, small)
 
 -- the end of the reading
-module _ (s xs ls hs ts : List ℕ) (o : Opening) (b : OutsRead) (e : Refusal) (end : EndStep s (b .next) (3 + o .nodes + o .outputs) e) where
+module _ (s xs ls hs ts : List ℕ) (o : Opening) (b : OutsRead) (e : Refusal) (end : EndStep s (b .next) (o .line + o .nodes + o .outputs) e) where
   pub end-refused :
       (e .number ≡ 0 → ⊥)
       → record { refusal = e; job = noJob }
@@ -76,13 +76,13 @@ module _ (s xs ls hs ts : List ℕ) (o : Opening) (b : OutsRead) (e : Refusal) (
   module _ (ends : e .number ≡ 0) where
     ended :
         readEnd (outlined o b xs ls hs ts) (endLine o) (linesOf (drop (b .next) s))
-        ≡ done (record { diagram = outlined o b xs ls hs ts; last = 3 + o .nodes + o .outputs })
+        ≡ done (record { diagram = outlined o b xs ls hs ts; last = o .line + o .nodes + o .outputs })
     unfolding endLine
     ended = end .goes-on (outlined o b xs ls hs ts) ∙ unless-none (e .number) (e .line) _ ends
 
     pub end-large :
         tooLarge (stored (o .switches) (o .one) (o .nodes) xs ls hs ts (take (o .outputs) (b .outs))) ≡ true
-        → record { refusal = record { number = 11; line = 3 + o .nodes + o .outputs }; job = noJob }
+        → record { refusal = record { number = 11; line = o .line + o .nodes + o .outputs }; job = noJob }
         ≡ jobRead (sizeTested (readEnd (outlined o b xs ls hs ts) (endLine o) (linesOf (drop (b .next) s))))
     unfolding outlined
     end-large large = refused-answer _ _ (large-refused _ _ ended large)
@@ -120,11 +120,11 @@ module _ (s xs ls hs ts : List ℕ) (o : Opening) (opened : OpeningStep s o) whe
   pub opening-refused : (o .refusal .number ≡ 0 → ⊥) → LinesRead s xs ls hs ts (record { refusal = o .refusal; job = noJob })
   opening-refused h = stopped-lines s xs ls hs ts (o .refusal) _ (opened .goes-on) h
 
-  module _ (opens : o .refusal .number ≡ 0) (a : NodesRead) (nodes : NodesStep s (o .next) (o .switches) (o .one) (o .nodes) xs ls hs ts a) where
+  module _ (opens : o .refusal .number ≡ 0) (a : NodesRead) (nodes : NodesStep s (o .next) (o .line) (o .switches) (o .one) (o .nodes) xs ls hs ts a) where
     to-outs :
         readText s
         ≡ unlessRefused (a .refusal)
-        (readOuts (o .outputs) (stored (o .switches) (o .one) (o .nodes) xs ls hs ts []) (3 + o .nodes) (linesOf (drop (a .next) s)))
+        (readOuts (o .outputs) (stored (o .switches) (o .one) (o .nodes) xs ls hs ts []) (o .line + o .nodes) (linesOf (drop (a .next) s)))
     to-outs = opened .goes-on ∙ unless-none (o .refusal .number) (o .refusal .line) _ opens ∙ nodes .goes-on (o .outputs)
 
     pub nodes-refused : (a .refusal .number ≡ 0 → ⊥) → LinesRead s xs ls hs ts (record { refusal = a .refusal; job = noJob })
@@ -133,7 +133,7 @@ module _ (s xs ls hs ts : List ℕ) (o : Opening) (opened : OpeningStep s o) whe
     module _
         (named : a .refusal .number ≡ 0)
         (b : OutsRead)
-        (outs : OutsStep s (a .next) (o .switches) (o .one) (o .nodes) (o .outputs) xs ls hs ts b)
+        (outs : OutsStep s (a .next) (o .line + o .nodes) (o .switches) (o .one) (o .nodes) (o .outputs) xs ls hs ts b)
       where
         to-end :
             readText s
@@ -145,7 +145,7 @@ module _ (s xs ls hs ts : List ℕ) (o : Opening) (opened : OpeningStep s o) whe
         outs-refused h = stopped-lines s xs ls hs ts (b .refusal) _ to-end h
 
         pub outs-listed : Listed o b
-        outs-listed = record { sized = opened .sized; entries = outs .entries; past = outs .past }
+        outs-listed = record { sized = opened .sized; early = opened .early; entries = outs .entries; past = outs .past }
 
         module _ (put : b .refusal .number ≡ 0) where
           at-end : accepted s ≡ sizeTested (readEnd (outlined o b xs ls hs ts) (endLine o) (linesOf (drop (b .next) s)))

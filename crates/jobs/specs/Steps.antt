@@ -29,12 +29,13 @@ pub record Sized (v n k : ℕ) : Type 0 where
   pub nodes-most : n ≤ maxNodes
   pub outputs-most : k ≤ maxOutputs
 
--- the text s after its first two lines
+-- the text s after its first two lines; 65536 bounds the numbers of lines, so that the count of them fits
 pub record OpeningStep (s : List ℕ) (r : Opening) : Type 0 where
   pub goes-on :
       readText s
-      ≡ unlessRefused (r .refusal) (readNodes (r .nodes) (r .outputs) (bare (r .switches) (r .one)) 3 (linesOf (drop (r .next) s)))
+      ≡ unlessRefused (r .refusal) (readNodes (r .nodes) (r .outputs) (bare (r .switches) (r .one)) (r .line) (linesOf (drop (r .next) s)))
   pub sized : Sized (r .switches) (r .nodes) (r .outputs)
+  pub early : r .line ≤ 65536
 
 -- an array of the table that holds zeros from entry k on
 pub record Clear (k : ℕ) (xs : List ℕ) : Type 0 where
@@ -48,19 +49,19 @@ pub record AllClear (k : ℕ) (xs ls hs ts : List ℕ) : Type 0 where
   pub highs : Clear k hs
   pub labels : Clear k ts
 
--- after n node lines, which the arrays hold
-pub record NodesStep (s : List ℕ) (at v one n : ℕ) (xs ls hs ts : List ℕ) (r : NodesRead) : Type 0 where
+-- after n node lines, which the arrays hold, from line number `line` on
+pub record NodesStep (s : List ℕ) (at line v one n : ℕ) (xs ls hs ts : List ℕ) (r : NodesRead) : Type 0 where
   pub goes-on :
       (k : ℕ)
-      → readNodes n k (bare v one) 3 (linesOf (drop at s))
-      ≡ unlessRefused (r .refusal) (readOuts k (stored v one n xs ls hs ts []) (3 + n) (linesOf (drop (r .next) s)))
+      → readNodes n k (bare v one) line (linesOf (drop at s))
+      ≡ unlessRefused (r .refusal) (readOuts k (stored v one n xs ls hs ts []) (line + n) (linesOf (drop (r .next) s)))
   pub clear : AllClear n xs ls hs ts
 
 -- after k lines of outputs
-pub record OutsStep (s : List ℕ) (at v one n k : ℕ) (xs ls hs ts : List ℕ) (r : OutsRead) : Type 0 where
+pub record OutsStep (s : List ℕ) (at line v one n k : ℕ) (xs ls hs ts : List ℕ) (r : OutsRead) : Type 0 where
   pub goes-on :
-      readOuts k (stored v one n xs ls hs ts []) (3 + n) (linesOf (drop at s))
-      ≡ unlessRefused (r .refusal) (readEnd (stored v one n xs ls hs ts (take k (r .outs))) (3 + n + k) (linesOf (drop (r .next) s)))
+      readOuts k (stored v one n xs ls hs ts []) line (linesOf (drop at s))
+      ≡ unlessRefused (r .refusal) (readEnd (stored v one n xs ls hs ts (take k (r .outs))) (line + k) (linesOf (drop (r .next) s)))
   pub entries : length (r .outs) ≡ maxOutputs
   pub past : (i : ℕ) → k ≤ i → getD (r .outs) i 0 ≡ 0
 
@@ -73,11 +74,12 @@ unfoldable pub outlined : Opening → OutsRead → List ℕ → List ℕ → Lis
 outlined o outs xs ls hs ts = stored (o .switches) (o .one) (o .nodes) xs ls hs ts (take (o .outputs) (outs .outs))
 
 unfoldable pub endLine : Opening → ℕ
-endLine o = 3 + o .nodes + o .outputs
+endLine o = o .line + o .nodes + o .outputs
 
 -- the outputs fill their array up to K, and zeros stand past them
 pub record Listed (o : Opening) (outs : OutsRead) : Type 0 where
   pub sized : Sized (o .switches) (o .nodes) (o .outputs)
+  pub early : o .line ≤ 65536
   pub entries : length (outs .outs) ≡ maxOutputs
   pub past : (i : ℕ) → o .outputs ≤ i → getD (outs .outs) i 0 ≡ 0
 

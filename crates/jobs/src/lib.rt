@@ -84,13 +84,14 @@ pub struct OutLine {
     pub next: usize,
 }
 
-// The first two lines.
+// The first two lines, and the number and the position of the line after them.
 pub struct Opening {
     pub refusal: Refusal,
     pub switches: u16,
     pub one: u16,
     pub nodes: u16,
     pub outputs: u16,
+    pub line: u32,
     pub next: usize,
 }
 

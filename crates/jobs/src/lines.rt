@@ -164,7 +164,7 @@ pub fn out_line(
 
 // The line `(end)`: grounds 1 and 10.
 pub fn end_line(text: &[u8], at: usize, line: u32) -> Refusal
-    requires { ⌜ line < 1000 ⌝ }
+    requires { ⌜ line < 4294967295 ⌝ }
     ensures { λ r. ⌜ r ≡ lastLine (now (text .entry)) at line ⌝ }
 {
     let Form::End = forms::form_at(text, at, line) else {

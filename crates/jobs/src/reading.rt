@@ -46,7 +46,8 @@ fn clear_table(
 fn read_opening(text: &[u8]) -> Opening
     ensures { λ r. ⌜ OpeningStep (now (text .entry)) r ⌝ }
 {
-    let head = lines::head_line(text, 1);
+    let line: u32 = 1;
+    let head = lines::head_line(text, line);
     let first = head.refusal;
     if first.number != 0 {
         return Opening {
@@ -55,10 +56,11 @@ fn read_opening(text: &[u8]) -> Opening
             one: 0,
             nodes: 0,
             outputs: 0,
+            line: 0,
             next: 0,
         };
     }
-    let one = lines::one_line(text, head.next, 2);
+    let one = lines::one_line(text, head.next, line + 1);
     let second = one.refusal;
     Opening {
         refusal: second,
@@ -66,15 +68,17 @@ fn read_opening(text: &[u8]) -> Opening
         one: one.one,
         nodes: head.nodes,
         outputs: head.outputs,
+        line: line + 2,
         next: one.next,
     }
 }
 
-// Document 01, "Job text": "The reader fills a lent table of nodes, one entry a line." The n node lines from a position on; the
-// table is cleared first.
+// Document 01, "Job text": "The reader fills a lent table of nodes, one entry a line." The n node lines from a position on, of
+// which the first has the number `line`; the table is cleared first.
 fn read_nodes(
     text: &[u8],
     at: usize,
+    line: u32,
     xs: &mut [u16; MAX_NODES],
     ls: &mut [u16; MAX_NODES],
     hs: &mut [u16; MAX_NODES],
@@ -83,15 +87,15 @@ fn read_nodes(
     one: u16,
     n: usize,
 ) -> NodesRead
-    requires { ⌜ n ≤ maxNodes ⌝ }
+    requires { ⌜ (n ≤ maxNodes) × (line ≤ 65536) ⌝ }
     ensures { λ r.
-        ⌜ NodesStep (now (text .entry)) at v one n (now (xs .exit)) (now (ls .exit)) (now (hs .exit)) (now (ts .exit)) r ⌝ }
+        ⌜ NodesStep (now (text .entry)) at line v one n (now (xs .exit)) (now (ls .exit)) (now (hs .exit)) (now (ts .exit)) r ⌝ }
 {
     clear_table(xs, ls, hs, ts);
     let mut next = at;
     let mut k: usize = 0;
     while k < n {
-        let r = lines::node_line(text, next, 3 + k as u32, xs, ls, hs, ts, v, one, k);
+        let r = lines::node_line(text, next, line + k as u32, xs, ls, hs, ts, v, one, k);
         let refusal = r.refusal;
         if refusal.number != 0 {
             return NodesRead { refusal, next };
@@ -109,24 +113,24 @@ fn read_nodes(
     }
 }
 
-// The k lines of the outputs from a position on, after n nodes.
+// The k lines of the outputs from a position on, of which the first has the number `line`, after n nodes.
 fn read_outs(
     text: &[u8],
     at: usize,
+    line: u32,
     ts: &[u16; MAX_NODES],
     one: u16,
     n: usize,
     k: usize,
 ) -> OutsRead
-    requires { ⌜ (n ≤ maxNodes) × (k ≤ maxOutputs) ⌝ }
-    ensures { λ r. ⌜ ((v : ℕ) (xs ls hs : List ℕ) → OutsStep (now (text .entry)) at v one n k xs ls hs (now (ts .entry)) r) ⌝ }
+    requires { ⌜ (n ≤ maxNodes) × (k ≤ maxOutputs) × (line ≤ 131072) ⌝ }
+    ensures { λ r. ⌜ ((v : ℕ) (xs ls hs : List ℕ) → OutsStep (now (text .entry)) at line v one n k xs ls hs (now (ts .entry)) r) ⌝ }
 {
     let mut outs = [0u16; MAX_OUTPUTS];
     let mut next = at;
     let mut j: usize = 0;
     while j < k {
-        let line = 3 + n as u32 + j as u32;
-        let r = lines::out_line(text, next, line, ts, one, n, j);
+        let r = lines::out_line(text, next, line + j as u32, ts, one, n, j);
         let refusal = r.refusal;
         if refusal.number != 0 {
             return OutsRead {
@@ -171,7 +175,7 @@ pub fn finish(text: &[u8], ts: &[u16; MAX_NODES], o: Opening, outs: OutsRead) ->
 {
     let n = o.nodes as usize;
     let k = o.outputs as usize;
-    let last = 3 + n as u32 + k as u32;
+    let last = o.line + n as u32 + k as u32;
     let end = lines::end_line(text, outs.next, last);
     if end.number != 0 {
         return no_job(end);
@@ -212,12 +216,12 @@ fn read_lines(
     }
     let n = o.nodes as usize;
     let k = o.outputs as usize;
-    let nodes = read_nodes(text, o.next, xs, ls, hs, ts, o.switches, o.one, n);
+    let nodes = read_nodes(text, o.next, o.line, xs, ls, hs, ts, o.switches, o.one, n);
     let node = nodes.refusal;
     if node.number != 0 {
         return no_job(node);
     }
-    let outs = read_outs(text, nodes.next, ts, o.one, n, k);
+    let outs = read_outs(text, nodes.next, o.line + n as u32, ts, o.one, n, k);
     let out = outs.refusal;
     if out.number != 0 {
         return no_job(out);

@@ -18,19 +18,21 @@ cast-last : tie.Need-cast-last
 cast-last c = search needs
 
 add-last : tie.Need-add-last
-add-last c = search needs
+unfolding maxNodes
+add-last c = omega (arith, c .before .before .before .before .pre .early, c .before .before .before .before .pre .sized .nodes-most)
 
 cast-last-2 : tie.Need-cast-last-2
 cast-last-2 c = search needs
 
 add-last-2 : tie.Need-add-last-2
-add-last-2 c = search needs
+unfolding maxNodes maxOutputs
+add-last-2 c = omega (arith, c .before .before .before .before .pre .early, c .before .before .before .before .pre .sized .nodes-most, c .before .before .before .before .pre .sized .outputs-most)
 
 end-line-requires : tie.Need-end-line-requires
 unfolding maxNodes maxOutputs
 end-line-requires c κs =
-    let sized = c .before .before .before .pre .sized in
-    omega (arith, sized .nodes-most, sized .outputs-most)
+    let sized = c .before .before .before .before .pre .sized in
+    omega (arith, c .before .before .before .before .pre .early, sized .nodes-most, sized .outputs-most)
 
 no-job-requires : tie.Need-no-job-requires
 no-job-requires c κs = search needs
@@ -57,7 +59,7 @@ returns-3 c =
     λ xs ls hs.
     end-done _ xs ls hs _ _ _ _ (end-step _ _ _ _ (c .before .before .before .before .before .before .end-line .ensures)) (c .before .before .before .before .if1 .left)
     (sym (c .before .too-large .ensures _ xs ls hs) ∙ c .if2 .left)
-    (c .before .before .before .before .before .before .before .before .before .before .pre)
+    (c .before .before .before .before .before .before .before .before .before .before .before .pre)
 
 pub finish-spec : {M : Type 1} → statement M
 finish-spec =

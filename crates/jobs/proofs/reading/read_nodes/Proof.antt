@@ -9,10 +9,10 @@ use Rattle.jobs.proofs.reading.read_nodes.Statement.{statement}
 use Rattle.jobs.proofs.reading.read_nodes.Tie as tie
 
 abbrev Inv-loop : tie.InvT-loop
-Inv-loop text at xs₀ ls₀ hs₀ ts₀ v one n next₀ k₀ xs ls hs ts next k = NodesAt text at v one n xs ls hs ts next k
+Inv-loop text at line xs₀ ls₀ hs₀ ts₀ v one n next₀ k₀ xs ls hs ts next k = NodesAt text at line v one n xs ls hs ts next k
 
 abbrev μ-loop : tie.MeasureT-loop
-μ-loop text at xs₀ ls₀ hs₀ ts₀ v one n next₀ k₀ xs ls hs ts next k = n - k
+μ-loop text at line xs₀ ls₀ hs₀ ts₀ v one n next₀ k₀ xs ls hs ts next k = n - k
 
 clear-table-requires : tie.Need-clear-table-requires Inv-loop μ-loop
 clear-table-requires c κs =
@@ -21,7 +21,7 @@ clear-table-requires c κs =
 loop-holds : tie.Need-loop-holds Inv-loop μ-loop
 loop-holds c =
     let cleared = c .clear-table .ensures in
-    nodes-start _ _ _ _ _ _ _ _ _ (cleared .0) (cleared .1) (cleared .2) (cleared .3)
+    nodes-start _ _ _ _ _ _ _ _ _ _ (cleared .0) (cleared .1) (cleared .2) (cleared .3)
 
 cast-node-line : tie.Need-cast-node-line Inv-loop μ-loop
 unfolding maxNodes
@@ -40,7 +40,7 @@ node-line-requires c κs =
 
 returns : tie.Need-returns Inv-loop μ-loop
 returns c =
-    nodes-stops _ _ _ _ _ _ _ _ _ _ _ (c .before .before .before .before .before .before .before .before .before .loop .inv) _ (node-step _ _ _ _ _ (c .before .before .before .node-line .ensures)) (c .before .before .before .before .before .before .before .before .loop-test .taken) (c .if1 .taken)
+    nodes-stops _ _ _ _ _ _ _ _ _ _ _ _ (c .before .before .before .before .before .before .before .before .before .loop .inv) _ (node-step _ _ _ _ _ (c .before .before .before .node-line .ensures)) (c .before .before .before .before .before .before .before .before .loop-test .taken) (c .if1 .taken)
 
 mul-xs : tie.Need-mul-xs Inv-loop μ-loop
 unfolding maxNodes
@@ -94,11 +94,11 @@ loop-less c =
 
 loop-again : tie.Need-loop-again Inv-loop μ-loop
 loop-again c =
-    nodes-more _ _ _ _ _ _ _ _ _ _ _ (c .before .before .before .before .before .before .before .before .before .loop .inv) _ (node-step _ _ _ _ _ (c .before .before .before .node-line .ensures)) (c .before .before .before .before .before .before .before .before .loop-test .taken) (c .before .before .before .before .before .before .before .before .before .before .before .before .before .before .before .before .pre) (c .if1 .left)
+    nodes-more _ _ _ _ _ _ _ _ _ _ _ _ (c .before .before .before .before .before .before .before .before .before .loop .inv) _ (node-step _ _ _ _ _ (c .before .before .before .node-line .ensures)) (c .before .before .before .before .before .before .before .before .loop-test .taken) (c .before .before .before .before .before .before .before .before .before .before .before .before .before .before .before .before .pre .0) (c .if1 .left)
 
 returns-2 : tie.Need-returns-2 Inv-loop μ-loop
 returns-2 c =
-    nodes-done _ _ _ _ _ _ _ _ _ _ _ (c .before .loop .inv) (c .loop-test .left)
+    nodes-done _ _ _ _ _ _ _ _ _ _ _ _ (c .before .loop .inv) (c .loop-test .left)
 
 pub read-nodes-spec : {M : Type 1} → statement M
 read-nodes-spec =

@@ -12,12 +12,18 @@ returns : tie.Need-returns
 returns c =
     opening-stops _ _ (head-step _ _ _ _ (c .before .before .before .head-line .ensures)) (c .if1 .taken)
 
+add-one-line : tie.Need-add-one-line
+add-one-line c = search needs
+
 one-line-requires : tie.Need-one-line-requires
 one-line-requires c κs = search needs
+
+add-t8 : tie.Need-add-t8
+add-t8 c = search needs
 
 returns-2 : tie.Need-returns-2
 returns-2 c =
     opening-goes _ _ (head-step _ _ _ _ (c .before .before .before .before .before .head-line .ensures)) (c .before .before .if1 .left) _ (one-step _ _ _ _ (c .before .one-line .ensures))
 
 pub read-opening-spec : {M : Type 1} → statement M
-read-opening-spec = tie.close (tie.spec head-line-requires returns one-line-requires returns-2)
+read-opening-spec = tie.close (tie.spec head-line-requires returns add-one-line one-line-requires add-t8 returns-2)

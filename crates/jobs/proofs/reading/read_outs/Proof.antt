@@ -8,34 +8,24 @@ use Rattle.jobs.proofs.reading.read_outs.Statement.{statement}
 use Rattle.jobs.proofs.reading.read_outs.Tie as tie
 
 abbrev Inv-loop : tie.InvT-loop
-Inv-loop text at ts one n k outs₀ next₀ j₀ outs next j = OutsAt text at one n k ts outs next j
+Inv-loop text at line ts one n k outs₀ next₀ j₀ outs next j = OutsAt text at line one n k ts outs next j
 
 abbrev μ-loop : tie.MeasureT-loop
-μ-loop text at ts one n k outs₀ next₀ j₀ outs next j = k - j
+μ-loop text at line ts one n k outs₀ next₀ j₀ outs next j = k - j
 
 loop-holds : tie.Need-loop-holds Inv-loop μ-loop
 unfolding maxOutputs
 loop-holds c =
-    outs-start _ _ _ _ _ _
+    outs-start _ _ _ _ _ _ _
 
-cast-line : tie.Need-cast-line Inv-loop μ-loop
+cast-out-line : tie.Need-cast-out-line Inv-loop μ-loop
 unfolding maxNodes maxOutputs
-cast-line c =
+cast-out-line c =
     omega arith
 
-add-line : tie.Need-add-line Inv-loop μ-loop
+add-out-line : tie.Need-add-out-line Inv-loop μ-loop
 unfolding maxNodes maxOutputs
-add-line c =
-    omega arith
-
-cast-line-2 : tie.Need-cast-line-2 Inv-loop μ-loop
-unfolding maxNodes maxOutputs
-cast-line-2 c =
-    omega arith
-
-add-line-2 : tie.Need-add-line-2 Inv-loop μ-loop
-unfolding maxNodes maxOutputs
-add-line-2 c =
+add-out-line c =
     omega arith
 
 out-line-requires : tie.Need-out-line-requires Inv-loop μ-loop
@@ -47,8 +37,8 @@ returns : tie.Need-returns Inv-loop μ-loop
 returns c =
     let at-loop = c .before .before .before .before .before in
     let inv = at-loop .loop .inv in
-    let count = outs-count _ _ _ _ _ _ _ _ _ inv (c .before .before .before .before .before .before .before .pre .1) in
-    outs-stops _ _ _ _ _ _ _ _ _ inv _ (λ v xs ls hs. out-step _ _ _ _ _ (c .before .before .before .out-line .ensures v xs ls hs _ count)) (c .before .before .before .before .loop-test .taken) (c .if1 .taken)
+    let count = outs-count _ _ _ _ _ _ _ _ _ _ inv (c .before .before .before .before .before .before .before .pre .1) in
+    outs-stops _ _ _ _ _ _ _ _ _ _ inv _ (λ v xs ls hs. out-step _ _ _ _ _ (c .before .before .before .out-line .ensures v xs ls hs _ count)) (c .before .before .before .before .loop-test .taken) (c .if1 .taken)
 
 mul-outs : tie.Need-mul-outs Inv-loop μ-loop
 unfolding maxNodes maxOutputs
@@ -75,12 +65,12 @@ loop-again c =
     let at-loop = c .before .before .before .before .before in
     let inv = at-loop .loop .inv in
     let few = c .before .before .before .before .before .before .before .pre .1 in
-    let count = outs-count _ _ _ _ _ _ _ _ _ inv few in
-    outs-more _ _ _ _ _ _ _ _ _ inv _ (λ v xs ls hs. out-step _ _ _ _ _ (c .before .before .before .out-line .ensures v xs ls hs _ count)) (c .before .before .before .before .loop-test .taken) few (c .if1 .left)
+    let count = outs-count _ _ _ _ _ _ _ _ _ _ inv few in
+    outs-more _ _ _ _ _ _ _ _ _ _ inv _ (λ v xs ls hs. out-step _ _ _ _ _ (c .before .before .before .out-line .ensures v xs ls hs _ count)) (c .before .before .before .before .loop-test .taken) few (c .if1 .left)
 
 returns-2 : tie.Need-returns-2 Inv-loop μ-loop
 returns-2 c =
-    outs-done _ _ _ _ _ _ _ _ _ (c .before .loop .inv) (c .loop-test .left)
+    outs-done _ _ _ _ _ _ _ _ _ _ (c .before .loop .inv) (c .loop-test .left)
 
 pub read-outs-spec : {M : Type 1} → statement M
 read-outs-spec =
@@ -89,10 +79,8 @@ read-outs-spec =
     Inv-loop
     μ-loop
     loop-holds
-    cast-line
-    add-line
-    cast-line-2
-    add-line-2
+    cast-out-line
+    add-out-line
     out-line-requires
     returns
     mul-outs
