@@ -3,7 +3,6 @@
 use Prim.Native.Nat.{ℕ, zero, suc, _+_, _≤_, _<_}
 use mathlib.Core.Path.{_≡_, refl, sym, ap, _∙_}
 use mathlib.Core.Logic.{_⊎_, inl, inr, ⊎-elim}
-use mathlib.Core.Bool.{true, false}
 use mathlib.Core.Option.{Option, some, none}
 use mathlib.Core.List.{List, [], _∷_}
 use native.Mathlib.Omega.{arith}
@@ -20,12 +19,11 @@ use Rattle.forms.specs.Forms.{jobForm, oneForm, nodeForm, outForm, endForm}
 use Rattle.forms.specs.Due.{Taken, due}
 use Rattle.forms.proofs.Lines.{lines-after}
 use Rattle.diagram.specs.Diagram.{Diagram, bare, withNode, withOut}
-use Rattle.diagram.specs.Faults.{headFault, oneFault, nodeFault, outFault}
 use Rattle.jobs.specs.declared.HeadLine.{HeadLine}
 use Rattle.jobs.specs.declared.OneLine.{OneLine}
 use Rattle.jobs.specs.declared.NodeLine.{NodeLine}
 use Rattle.jobs.specs.declared.OutLine.{OutLine}
-use Rattle.jobs.specs.Reading.{ReadText, nodeOf, readEnd, readOuts, readNodes, readOne, readHead}
+use Rattle.jobs.specs.Reading.{nodeOf, readEnd, readOuts, readNodes, readOne, readHead}
 use Rattle.jobs.specs.LineSteps.{
   lineDue,
   headFaultOf,

@@ -46,7 +46,7 @@ fn clear_table(
 fn read_opening(text: &[u8]) -> Opening
     ensures { λ r. ⌜ OpeningStep (now (text .entry)) r ⌝ }
 {
-    let line: u32 = 1;
+    let mut line: u32 = 1;
     let head = lines::head_line(text, line);
     let first = head.refusal;
     if first.number != 0 {
@@ -60,7 +60,8 @@ fn read_opening(text: &[u8]) -> Opening
             next: 0,
         };
     }
-    let one = lines::one_line(text, head.next, line + 1);
+    line += 1;
+    let one = lines::one_line(text, head.next, line);
     let second = one.refusal;
     Opening {
         refusal: second,
@@ -68,7 +69,7 @@ fn read_opening(text: &[u8]) -> Opening
         one: one.one,
         nodes: head.nodes,
         outputs: head.outputs,
-        line: line + 2,
+        line: line + 1,
         next: one.next,
     }
 }

@@ -12,8 +12,8 @@ returns : tie.Need-returns
 returns c =
     opening-stops _ _ (head-step _ _ _ _ (c .before .before .before .head-line .ensures)) (c .if1 .taken)
 
-add-one-line : tie.Need-add-one-line
-add-one-line c = search needs
+add-line : tie.Need-add-line
+add-line c = search needs
 
 one-line-requires : tie.Need-one-line-requires
 one-line-requires c κs = search needs
@@ -26,4 +26,4 @@ returns-2 c =
     opening-goes _ _ (head-step _ _ _ _ (c .before .before .before .before .before .head-line .ensures)) (c .before .before .if1 .left) _ (one-step _ _ _ _ (c .before .one-line .ensures))
 
 pub read-opening-spec : {M : Type 1} → statement M
-read-opening-spec = tie.close (tie.spec head-line-requires returns add-one-line one-line-requires add-t8 returns-2)
+read-opening-spec = tie.close (tie.spec head-line-requires returns add-line one-line-requires add-t8 returns-2)
