@@ -1,5 +1,5 @@
--- What each step of the reader says of the reading that document 01 defines: how the reading goes on from the line, or the refusal at
--- which it stops.
+-- What the reader's steps over several lines say of the reading that document 01 defines: how the reading goes on after the lines, or
+-- the refusal at which it stops. LineSteps has the lines one by one.
 use Prim.Native.Nat.{ℕ, _+_, _≤_}
 use mathlib.Core.Path.{_≡_}
 use mathlib.Core.List.{List, [], _∷_}
