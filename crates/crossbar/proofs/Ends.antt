@@ -25,7 +25,7 @@ use Rattle.diagram.specs.Diagram.{Diagram}
 use Rattle.diagram.specs.Walk.{walkValue}
 use Rattle.diagram.specs.Wires.{rowCount, columnCount, tooLarge}
 use Rattle.jobs.specs.Reading.{ReadText, readEnd, readOuts, readNodes, readOne, readHead, readText}
-use Rattle.jobs.specs.Job.{accepted, walk}
+use Rattle.jobs.specs.Job.{sizeTested, accepted, walk}
 use Rattle.jobs.proofs.Accepted.{head-ranges}
 use Rattle.placement.specs.Placement.{crossbar}
 use Rattle.placement.specs.Map.{mapJob}
@@ -130,7 +130,7 @@ pub record Small (m n : ℕ) : Type 0 where
   pub columns-most : n ≤ maxColumns
 
 accepted-ends : (s : List ℕ) → Ends (λ (d : Diagram). Small (rowCount d) (columnCount d)) mostLine (accepted s)
-unfolding accepted tooLarge
+unfolding accepted sizeTested tooLarge
 accepted-ends s =
     then-ends (readText s) _ (text-ends s)
     (λ t last.

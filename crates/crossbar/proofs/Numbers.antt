@@ -19,7 +19,7 @@ use Rattle.forms.specs.Forms.{jobForm, oneForm, nodeForm, outForm, endForm, cro
 use Rattle.diagram.specs.Diagram.{Diagram}
 use Rattle.diagram.specs.Faults.{headFault, oneFault, nodeFault, outFault}
 use Rattle.jobs.specs.Reading.{readEnd, readOuts, readNodes, readOne, readHead, readText}
-use Rattle.jobs.specs.Job.{accepted, walk}
+use Rattle.jobs.specs.Job.{sizeTested, accepted, walk}
 use Rattle.placement.specs.Map.{mapJob}
 use Rattle.conduction.specs.Light.{light}
 use Rattle.listings.specs.Listing.{print}
@@ -116,7 +116,7 @@ text-numbered s =
     (λ q. unless-numbered _ _ _ (lowest-within _ refl) (nodes-numbered _ _ _ _ (q .later)))))
 
 accepted-numbered : (s : List ℕ) → Numbered (accepted s)
-unfolding accepted within mostNumber
+unfolding accepted sizeTested within mostNumber
 accepted-numbered s =
     then-numbered (readText s) _ (text-numbered s) (λ t. unless-numbered _ _ _ (lowest-within _ refl) (of-done _))
 

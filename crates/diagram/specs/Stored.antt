@@ -1,4 +1,4 @@
--- A diagram as the services hold it: the node table as four flat arrays, of which the first n entries are the nodes in rising id, and
+-- A diagram as the services hold it: its nodes' fields in four flat arrays, of which the first n entries are the nodes in rising id, and
 -- the other figures beside it.
 use Prim.Native.Nat.{ℕ, zero, suc}
 use mathlib.Core.Bool.{true, false}

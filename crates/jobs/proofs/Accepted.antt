@@ -25,7 +25,7 @@ use Rattle.diagram.specs.Faults.{headFault, oneFault, nodeFault, outFault}
 use Rattle.diagram.specs.Wires.{rowCount, columnCount, tooLarge}
 use Rattle.diagram.specs.Facts.{Facts, Sizes}
 use Rattle.jobs.specs.Reading.{ReadText, nodeOf, readEnd, readOuts, readNodes, readOne, readHead, readText}
-use Rattle.jobs.specs.Job.{accepted}
+use Rattle.jobs.specs.Job.{sizeTested, accepted}
 
 -- a valid diagram e that goes on from d with m nodes and k outputs more
 record Grown (d e : Diagram) (m k : ℕ) : Type 0 where
@@ -167,7 +167,7 @@ pub record Accepted (d : Diagram) : Type 0 where
   pub sizes : Sizes d
 
 pub accepted-job : (s : List ℕ) (d : Diagram) → accepted s ≡ done d → Accepted d
-unfolding accepted readText tooLarge
+unfolding accepted sizeTested readText tooLarge
 accepted-job s d h =
     let taken = then-done (readText s) _ d h in
     let read = read-head 1 (linesOf s) (taken .0) (taken .1) in

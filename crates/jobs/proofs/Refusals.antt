@@ -11,7 +11,7 @@ use Rattle.forms.specs.Due.{Taken, due}
 use Rattle.forms.specs.Forms.{jobForm, oneForm, nodeForm, outForm, endForm}
 use Rattle.diagram.specs.Diagram.{Diagram}
 use Rattle.jobs.specs.Reading.{readEnd, readOuts, readNodes, readOne, readHead, readText}
-use Rattle.jobs.specs.Job.{accepted}
+use Rattle.jobs.specs.Job.{sizeTested, accepted}
 
 -- not refused with number 0
 abbrev pub Named : {A : Type 0} → Outcome A → Type 0
@@ -69,7 +69,7 @@ named-head n ls =
     named-then (due jobForm n ls) _ (named-due jobForm n ls) (λ o. named-unless _ _ _ (named-one _ _ _ (n + 1) (o .later)))
 
 named-accepted : (s : List ℕ) → Named (accepted s)
-unfolding accepted readText
+unfolding accepted sizeTested readText
 named-accepted s = named-then (readHead 1 (linesOf s)) _ (named-head 1 (linesOf s)) (λ t. named-unless _ _ _ (named-done _))
 
 -- number 0: the outcome is done, and so the job is accepted

@@ -21,14 +21,13 @@ use Rattle.jobs.specs.declared.NodesRead.{NodesRead}
 use Rattle.jobs.specs.declared.OutsRead.{OutsRead}
 use Rattle.jobs.specs.declared.JobRead.{JobRead}
 use Rattle.jobs.specs.Reading.{ReadText, readEnd, readOuts, readText}
-use Rattle.jobs.specs.Job.{accepted, table}
+use Rattle.jobs.specs.Job.{sizeTested, accepted, table}
 use Rattle.jobs.specs.Answer.{noJob, jobOf, jobRead}
 use Rattle.jobs.specs.Steps.{
   unlessRefused,
   OpeningStep,
   NodesStep,
   OutsStep,
-  sizeTested,
   outlined,
   endLine,
   Listed,

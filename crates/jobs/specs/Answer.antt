@@ -1,4 +1,4 @@
--- What the calls hand over for an outcome: the job record, the four arrays of the node table, and walk's answer.
+-- What is handed over for an outcome: the job record, the node table as it is and by field, and walk's answer.
 use Prim.Native.Nat.{ℕ}
 use mathlib.Core.Path.{_≡_}
 use mathlib.Core.List.{List, map}

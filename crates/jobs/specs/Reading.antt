@@ -3,9 +3,9 @@
 use Prim.Native.Nat.{ℕ, zero, suc, _+_}
 use mathlib.Core.List.{List, [], _∷_}
 use lib.ListN.{getD}
-use Rattle.common.specs.Outcome.{Outcome, done, refused, _then_, _when_, lowest, unless}
+use Rattle.common.specs.Outcome.{Outcome, done, _then_, _when_, lowest, unless}
 use Rattle.figures.specs.Line.{Lines, linesOf, follows}
-use Rattle.forms.specs.Due.{Taken, due}
+use Rattle.forms.specs.Due.{due}
 use Rattle.forms.specs.Forms.{jobForm, oneForm, nodeForm, outForm, endForm}
 use Rattle.diagram.specs.declared.Node.{Node}
 use Rattle.diagram.specs.Diagram.{Diagram, bare, withNode, withOut}

@@ -2,22 +2,21 @@
 -- the refusal at which it stops. LineSteps has the lines one by one.
 use Prim.Native.Nat.{ℕ, _+_, _≤_}
 use mathlib.Core.Path.{_≡_}
-use mathlib.Core.List.{List, [], _∷_}
+use mathlib.Core.List.{List, []}
 use lib.ListN.{length, getD, take, drop}
 use Rattle.common.specs.Limits.{maxSwitches, maxNodes, maxOutputs}
-use Rattle.common.specs.Outcome.{Outcome, done, _then_, _when_, lowest, unless}
+use Rattle.common.specs.Outcome.{Outcome, done, unless}
 use Rattle.common.specs.declared.Refusal.{Refusal}
 use Rattle.figures.specs.Line.{linesOf}
 use Rattle.diagram.specs.Diagram.{Diagram, bare}
 use Rattle.diagram.specs.Stored.{stored}
-use Rattle.diagram.specs.Wires.{tooLarge}
 use Rattle.jobs.specs.declared.Opening.{Opening}
 use Rattle.jobs.specs.declared.NodesRead.{NodesRead}
 use Rattle.jobs.specs.declared.OutsRead.{OutsRead}
 use Rattle.jobs.specs.declared.JobRead.{JobRead}
 use Rattle.jobs.specs.Answer.{jobRead, fieldsOf}
 use Rattle.jobs.specs.Job.{accepted, table}
-use Rattle.jobs.specs.Reading.{ReadText, readEnd, readOuts, readNodes, readText}
+use Rattle.jobs.specs.Reading.{readEnd, readOuts, readNodes, readText}
 
 -- what follows, unless there is a refusal
 abbrev pub unlessRefused : {A : Type 0} → Refusal → Outcome A → Outcome A
@@ -37,7 +36,7 @@ pub record OpeningStep (s : List ℕ) (r : Opening) : Type 0 where
   pub sized : Sized (r .switches) (r .nodes) (r .outputs)
   pub early : r .line ≤ 65536
 
--- an array of the table that holds zeros from entry k on
+-- an array of the reader that holds zeros from entry k on
 pub record Clear (k : ℕ) (xs : List ℕ) : Type 0 where
   pub entries : length xs ≡ maxNodes
   pub past : (i : ℕ) → k ≤ i → getD xs i 0 ≡ 0
@@ -65,10 +64,6 @@ pub record OutsStep (s : List ℕ) (at line v one n k : ℕ) (xs ls hs ts : List
   pub entries : length (r .outs) ≡ maxOutputs
   pub past : (i : ℕ) → k ≤ i → getD (r .outs) i 0 ≡ 0
 
--- ground 11, on a text that was read: "R or C exceeds 128; the line is that of `(end)`"
-unfoldable pub sizeTested : Outcome ReadText → Outcome Diagram
-sizeTested o = o then λ t. unless (lowest ((11 when tooLarge (t .diagram)) ∷ [])) (t .last) (done (t .diagram))
-
 -- the first two lines and the outputs of a job whose nodes the arrays hold: its diagram, and the line due for `(end)`
 unfoldable pub outlined : Opening → OutsRead → List ℕ → List ℕ → List ℕ → List ℕ → Diagram
 outlined o outs xs ls hs ts = stored (o .switches) (o .one) (o .nodes) xs ls hs ts (take (o .outputs) (outs .outs))
@@ -83,7 +78,7 @@ pub record Listed (o : Opening) (outs : OutsRead) : Type 0 where
   pub entries : length (outs .outs) ≡ maxOutputs
   pub past : (i : ℕ) → o .outputs ≤ i → getD (outs .outs) i 0 ≡ 0
 
--- after all lines, and grounds 10 and 11: the answer, and the table of a job that is accepted
+-- after all lines, and grounds 10 and 11: the answer, and the arrays of a job that is accepted
 pub record LinesRead (s xs ls hs ts : List ℕ) (r : JobRead) : Type 0 where
   pub answer : r ≡ jobRead (accepted s)
   pub held : (d : Diagram) → accepted s ≡ done d → record { xs = xs; ls = ls; hs = hs; ts = ts } ≡ fieldsOf (table (accepted s))

@@ -19,11 +19,11 @@ ghost use Rattle.common.specs.Limits.{maxNodes, maxOutputs};
 ghost use Rattle.common.specs.Lists.{zeros};
 ghost use Rattle.figures.specs.Line.{linesOf};
 ghost use Rattle.jobs.specs.Answer.{noJob, jobRead, textRead};
-ghost use Rattle.jobs.specs.Job.{accepted};
+ghost use Rattle.jobs.specs.Job.{sizeTested, accepted};
 ghost use Rattle.jobs.specs.Reading.{readEnd};
-ghost use Rattle.jobs.specs.Steps.{OpeningStep, NodesStep, OutsStep, Listed, sizeTested, outlined, endLine, LinesRead};
+ghost use Rattle.jobs.specs.Steps.{OpeningStep, NodesStep, OutsStep, Listed, outlined, endLine, LinesRead};
 
-// The node table with zeros in every entry.
+// The reader's arrays with zeros in every entry.
 fn clear_table(
     xs: &mut [u16; MAX_NODES],
     ls: &mut [u16; MAX_NODES],
@@ -74,8 +74,8 @@ fn read_opening(text: &[u8]) -> Opening
     }
 }
 
-// Document 01, "Job text": "The reader fills a lent table of nodes, one entry a line." The n node lines from a position on, of
-// which the first has the number `line`; the table is cleared first.
+// The n node lines from a position on, of which the first has the number `line`: an entry of the arrays for each. The arrays are
+// cleared first.
 fn read_nodes(
     text: &[u8],
     at: usize,
@@ -167,8 +167,8 @@ fn no_job(refusal: Refusal) -> JobRead
     }
 }
 
-// The line `(end)`, then ground 10 and ground 11: the answer for a job whose nodes are in the table and whose outputs are read.
-pub fn finish(text: &[u8], ts: &[u16; MAX_NODES], o: Opening, outs: OutsRead) -> JobRead
+// The line `(end)`, then ground 10 and ground 11: the answer for a job whose nodes are in the arrays and whose outputs are read.
+fn finish(text: &[u8], ts: &[u16; MAX_NODES], o: Opening, outs: OutsRead) -> JobRead
     requires { ⌜ Listed o outs ⌝ }
     ensures { λ r.
         ⌜ ((xs ls hs : List ℕ)
@@ -200,7 +200,7 @@ pub fn finish(text: &[u8], ts: &[u16; MAX_NODES], o: Opening, outs: OutsRead) ->
     }
 }
 
-// All lines in turn. After a refusal the table may hold entries.
+// All lines in turn. After a refusal the arrays may hold entries.
 fn read_lines(
     text: &[u8],
     xs: &mut [u16; MAX_NODES],
@@ -230,7 +230,7 @@ fn read_lines(
     finish(text, ts, o, outs)
 }
 
-// All lines in turn, and what they say by value: "entries without a line are zeros, and after a refusal it holds zeros only."
+// All lines in turn, and what they say by value, with zeros where the node table holds zeros.
 pub fn read_text(text: &[u8]) -> TextRead
     ensures { λ r. ⌜ r ≡ textRead (accepted (now (text .entry))) ⌝ }
 {

@@ -1,6 +1,6 @@
 // Document 01, "Job text": the node table. "The reader fills a lent table of nodes, one entry a line." The lines are read first, into an
-// array for each field, since a line is tested against the entries before it. Once it is known whether the job is refused, each entry is
-// written once.
+// array for each field: whether the table is to hold zeros only is known at the last line. Then each entry is written once. The walk and
+// the placement look up one field at a time, so they take the table apart by field again.
 use crate::Fields;
 use crate::JobRead;
 use crate::TableRead;
@@ -76,7 +76,7 @@ pub fn read_table(text: &[u8]) -> TableRead
     TableRead { read, nodes }
 }
 
-// The entries of a node table by field, for the walk and the placement, which look up one field at a time.
+// The entries of a node table by field.
 pub fn fields_of(table: TableRead) -> Fields
     ensures { λ r. ⌜ r ≡ fieldsOf (table .nodes) ⌝ }
 {
