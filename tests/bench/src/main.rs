@@ -286,20 +286,31 @@ fn main() -> ExitCode {
         bench.line(&format!("load, {name}"), call);
     }
 
-    let worst = [
-        "light, a chain through all wires",
-        "light, the chain in falling order",
-        "light, the chain among cells that do not pass",
-    ];
-    let longest = worst
-        .iter()
-        .map(|name| bench.library_time(name))
-        .fold(0.0, f64::max);
-    let least = bench.library_time("light, at rest after one round");
-    println!(
-        "the longest chain takes {:.1} times the rest after one round",
-        longest / least
-    );
+    // A chain beside a crossbar at rest with the same other cells.
+    for (others, chains, rest) in [
+        (
+            "off",
+            &[
+                "light, a chain through all wires",
+                "light, the chain in falling order",
+            ][..],
+            "light, at rest after one round",
+        ),
+        (
+            "cells that do not pass",
+            &["light, the chain among cells that do not pass"][..],
+            "light, the same among cells that do not pass",
+        ),
+    ] {
+        let longest = chains
+            .iter()
+            .map(|name| bench.library_time(name))
+            .fold(0.0, f64::max);
+        println!(
+            "a chain takes {:.1} times the rest after one round, the other cells being {others}",
+            longest / bench.library_time(rest)
+        );
+    }
     if bench.failed {
         ExitCode::FAILURE
     } else {
