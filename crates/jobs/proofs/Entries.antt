@@ -40,11 +40,6 @@ entry-field : (f : Node → ℕ) → f no-node ≡ 0 → (ns : List Node) (m k :
 entry-field f z ns m k =
     rw (← z) (List·getD-map f (ns ++ replicate m no-node) k no-node ∙ ap f (getD-more ns m k no-node))
 
--- the table of an accepted job
-table-done : (d : Diagram) → table (done d) ≡ d .nodes ++ replicate (maxNodes - length (d .nodes)) no-node
-unfolding table valueOf
-table-done d = refl
-
 module _ (d : Diagram) (xs ls hs ts : List ℕ) (h : Holds (table (done d)) xs ls hs ts) where
   held-node : (k : ℕ) → storedNode xs ls hs ts k ≡ getD (d .nodes) k no-node
   unfolding table valueOf storedNode no-node

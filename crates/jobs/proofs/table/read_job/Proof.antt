@@ -91,10 +91,6 @@ holds : (t : Bool) → T t → t ≡ true
 holds true _ = refl
 holds false a = absurd a
 
-fails : (t : Bool) → (T t → ⊥) → t ≡ false
-fails true f = absurd (f tt)
-fails false _ = refl
-
 -- a number of entries, and the next, fit a word
 fits : {k : ℕ} → k < maxNodes → k < 2 ^ 64
 unfolding maxNodes
@@ -245,7 +241,7 @@ module _ {M : Type 1} (𝓤 : URA M) (H : Heap 𝓤) (A : Atoms 𝓤) (W : Given
     abbrev En : Env 𝓤 H
     En = (jobTy, l₀) ∷ (textTy, l₁) ∷ (nodesTy, l₂) ∷ (linesTy, l₃) ∷ (word, l₄) ∷ (nodeTy, l₅) ∷ (tyBool, l₆) ∷ (tyUnit, l₇) ∷ (entryTy, l₈) ∷ (lentTy, l₉) ∷ []
 
-    -- what no turn touches
+    -- what no turn changes
     abbrev Frame : List (Item 𝓤)
     Frame = ‵ (fat fullShare textTy l₁ 0 tv) ∷ ‵ (fat fullShare nodesTy l₂ 0 sv) ∷ ‵ (fat fullShare linesTy l₃ 0 w) ∷ ‵ (froom jobTy l₀ 0)
         ∷ ‵ (fdies jobTy l₀) ∷ ‵ (fdies textTy l₁) ∷ ‵ (fdies nodesTy l₂) ∷ ‵ (fdies linesTy l₃) ∷ ‵ (fdies word l₄) ∷ ‵ (fdies nodeTy l₅) ∷ ‵ (fdies tyBool l₆) ∷ ‵ (fdies tyUnit l₇) ∷ ‵ (fdies entryTy l₈) ∷ ‵ (fdies lentTy l₉)
