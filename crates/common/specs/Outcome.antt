@@ -2,6 +2,7 @@
 -- the whole output buffer, and 0 as value, rounds or field of a record."
 use Prim.Native.Nat.{ℕ, zero, suc}
 use mathlib.Core.Bool.{Bool, true, false}
+use mathlib.Core.Path.{_≡_}
 use mathlib.Core.List.{List, [], _∷_}
 use Rattle.common.specs.declared.Refusal.{Refusal}
 use Rattle.common.specs.Lists.{zeros, padded}
@@ -55,3 +56,9 @@ valueOf otherwise f (refused k l) = otherwise
 unfoldable pub bufferOf : {A : Type 0} → ℕ → (A → List ℕ) → Outcome A → List ℕ
 bufferOf n f (done a) = padded n (f a)
 bufferOf n f (refused k l) = zeros n
+
+-- what a call promises of its outcome o: its answer r, which is what it hands over for that outcome, and every byte of the buffer of
+-- `room` bytes that is lent to it, by what the buffer holds after the call
+pub record Answered {A B : Type 0} (o : Outcome A) (handed : Outcome A → B) (bytes : A → List ℕ) (room : ℕ) (r : B) (after : List ℕ) : Type 0 where
+  pub answer : r ≡ handed o
+  pub buffer : after ≡ bufferOf room bytes o
