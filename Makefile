@@ -1,6 +1,6 @@
 # make run       proves and builds the programs, maps JOB and lights it under SET
 # make test      the gate, from nothing
-# make bench     times the library beside the second implementation
+# make bench     times the library beside a plain program and the second implementation
 # make soak      compares the library with the second implementation on new cases for SECONDS seconds
 # make install   the programs, the library, the header and the pages, under DESTDIR and PREFIX
 JOB = examples/half-adder.job

@@ -60,7 +60,7 @@ pub const MAX_LISTING: usize = 393_728;
 
 /// The calls themselves, on slices that the caller owns. For measuring time;
 /// the tests go through a `Lender`.
-pub mod plain {
+pub mod direct {
     /// Value: R times C.
     pub fn map(text: &[u8], record: &mut [u8], cells: &mut [u8]) -> u64 {
         // Safety: each pointer comes with the length of its own slice, and
