@@ -14,7 +14,7 @@ ghost use Rattle.cells.specs.Record.{inRange, sound};
 ghost use Rattle.cells.specs.Setting.{isSetting};
 
 // Whether every byte from a place on is 0.
-fn all_zero_from(s: &[u8], from: usize) -> bool
+pub fn all_zero_from(s: &[u8], from: usize) -> bool
     ensures { λ r. ⌜ r ≡ all-of (λ b. eqb b 0) (drop from (now (s .entry))) ⌝ }
 {
     let mut i = from;

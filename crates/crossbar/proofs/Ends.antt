@@ -1,4 +1,4 @@
--- How the calls end: the value of what is done has a bound, and so has the line of a refusal. Assumes nothing.
+-- How the calls end: the value of what is done has a bound, and so has the line of a refusal.
 use Prim.Native.Nat.{ℕ, zero, suc, _+_, _-_, _*_, _≤_}
 use mathlib.Core.Path.{_≡_, refl}
 use mathlib.Core.Bool.{Bool, true, false, not}

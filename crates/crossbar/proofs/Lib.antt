@@ -1,4 +1,5 @@
 pub mod Pairs
+pub mod Records
 pub mod Numbers
 pub mod Calls
 pub mod Deliveries

@@ -1,4 +1,4 @@
--- Numbers as pairs of bytes: one number more in a buffer, and a record's bytes hold that record. Assumes nothing.
+-- Numbers as pairs of bytes: one number more in a buffer, and a record's bytes hold that record.
 use Prim.Native.Nat.{ℕ, zero, suc, _+_, _-_, _*_, _/_, _%_, _≤_, _<_}
 use mathlib.Core.Path.{_≡_, refl, sym, ap, _∙_}
 use mathlib.Core.List.{List, [], _∷_, _++_, append-nil, append-assoc}

@@ -1,4 +1,4 @@
--- The parts of an answer are read back, for each call: its values and its lines are far below 2 to the 56th. Assumes nothing.
+-- The parts of an answer are read back, for each call: its values and its lines are far below 2 to the 56th.
 use Prim.Native.Nat.{ℕ, _+_, _-_, _*_, _/_, _%_, _≤_, _<_}
 use mathlib.Core.Path.{_≡_, refl, ap, _∙_}
 use mathlib.Core.List.{List}
@@ -8,7 +8,7 @@ use Rattle.common.specs.Limits.{maxRows, maxColumns, maxText}
 use Rattle.common.specs.Outcome.{Outcome, done, refused, numberOf}
 use Rattle.cells.specs.Record.{Whole}
 use Rattle.jobs.specs.Job.{walk}
-use Rattle.crossbar.specs.Host.{numberUnit, packed, mostNumber, Numbered, of-done, of-refused, cellsDue, forRecord, hostMap, hostLoad, ofRecord, hostLight, hostPrint}
+use Rattle.crossbar.specs.Host.{numberUnit, packed, mostNumber, ByGround, of-done, of-refused, cellsDue, forRecord, hostMap, hostLoad, ofRecord, hostLight, hostPrint}
 use Rattle.crossbar.specs.Parts.{numberPart, lowPart, Parts, CallsRead}
 use Rattle.crossbar.proofs.Numbers.{within, lowest-within, then-numbered, unless-numbered, map-numbered, walk-numbered, light-numbered, print-numbered, load-numbered}
 use Rattle.crossbar.proofs.Ends.{Ends, ends-done, ends-refused, mostLine, map-ends, walk-ends, light-ends, print-ends, load-ends}
@@ -18,7 +18,7 @@ pub parts :
     {A : Type 0} (value : A → ℕ) (most b : ℕ) (o : Outcome A)
     → most < numberUnit
     → b < numberUnit
-    → Numbered o
+    → ByGround o
     → Ends (λ a. value a ≤ most) b o
     → Parts value most o
 unfolding packed numberPart lowPart numberOf
@@ -44,11 +44,11 @@ parts value most b (refused k n) small short (of-refused low high) (ends-refused
     }
 
 -- grounds 14 and 12 on a record's buffer and bytes have numbers of their own
-for-record-numbered : (n : ℕ) (o : Outcome Whole) → Numbered o → Numbered (forRecord n o)
+for-record-numbered : (n : ℕ) (o : Outcome Whole) → ByGround o → ByGround (forRecord n o)
 unfolding forRecord within mostNumber
 for-record-numbered n o p = then-numbered o _ p (λ w. unless-numbered _ _ _ (lowest-within _ refl) (of-done _))
 
-of-record-numbered : {A : Type 0} (s : List ℕ) (rest : Outcome A) → Numbered rest → Numbered (ofRecord s rest)
+of-record-numbered : {A : Type 0} (s : List ℕ) (rest : Outcome A) → ByGround rest → ByGround (ofRecord s rest)
 unfolding ofRecord within mostNumber
 of-record-numbered s rest p = unless-numbered _ _ _ (lowest-within _ refl) p
 

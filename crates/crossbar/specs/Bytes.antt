@@ -1,9 +1,11 @@
 -- The crossbar record as bytes: R, C, V, K and the 32 output rows, two bytes a number, low byte first.
 use Prim.Native.Nat.{ℕ, _+_, _*_, _/_, _%_}
+use mathlib.Core.Bool.{Bool, _&&_}
 use mathlib.Core.List.{List, [], _∷_}
-use lib.ListN.{getD, set}
+use lib.ListN.{length, getD, set, drop}
+use lib.Dec.{eqb, leb}
 use Rattle.common.specs.Limits.{maxOutputs}
-use Rattle.common.specs.Lists.{tab}
+use Rattle.common.specs.Lists.{tab, all-of}
 use Rattle.cells.specs.declared.Crossbar.{Crossbar}
 
 -- how many bytes a record has
@@ -21,6 +23,10 @@ pairs (n ∷ ns) = n % 256 ∷ n / 256 ∷ pairs ns
 
 unfoldable pub recordBytes : Crossbar → List ℕ
 recordBytes x = pairs (numbersOf x)
+
+-- whether bytes hold a record: there are as many as a record has, and every byte past it is 0, as in a slice of cells
+unfoldable pub holdsRecord : List ℕ → Bool
+holdsRecord s = leb recordLength (length s) && all-of (λ b. eqb b 0) (drop recordLength s)
 
 -- a buffer with the number n put at place i: these two bytes change and all others stay
 abbrev pub withNumber : List ℕ → ℕ → ℕ → List ℕ

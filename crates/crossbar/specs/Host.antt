@@ -6,15 +6,16 @@ use mathlib.Core.Path.{_≡_}
 use mathlib.Core.Bool.{not}
 use mathlib.Core.List.{List, [], _∷_}
 use lib.ListN.{length}
-use lib.Dec.{eqb, ltb}
+use lib.Dec.{ltb}
 use Rattle.common.specs.declared.Refusal.{Refusal}
-use Rattle.common.specs.Outcome.{Outcome, done, refused, _then_, _when_, lowest, unless, bufferOf}
+use Rattle.common.specs.Outcome.{Outcome, done, refused, _then_, _when_, lowest, unless, Answered}
 use Rattle.cells.specs.Record.{Whole, size}
+use Rattle.jobs.specs.Job.{walk}
 use Rattle.placement.specs.Map.{mapJob}
 use Rattle.conduction.specs.Light.{Lit, light}
 use Rattle.listings.specs.Listing.{print}
 use Rattle.listings.specs.Loading.{load}
-use Rattle.crossbar.specs.Bytes.{recordLength, recordBytes, recordFrom}
+use Rattle.crossbar.specs.Bytes.{recordLength, recordBytes, recordFrom, holdsRecord}
 
 -- what the number of a refusal counts for in an answer: the highest of its 8 bytes counts these
 abbrev pub numberUnit : ℕ
@@ -30,13 +31,13 @@ unfoldable pub mostNumber : ℕ
 mostNumber = 15
 
 -- an outcome that is done, or whose number is one of 1 to 15
-pub data Numbered {A : Type 0} : Outcome A → Type 0 where
-  of-done : (a : A) → Numbered (done a)
-  of-refused : {k n : ℕ} → 1 ≤ k → k ≤ mostNumber → Numbered (refused k n)
+pub data ByGround {A : Type 0} : Outcome A → Type 0 where
+  of-done : (a : A) → ByGround (done a)
+  of-refused : {k n : ℕ} → 1 ≤ k → k ≤ mostNumber → ByGround (refused k n)
 
 -- the same number from the refusal, whose number is 0 where nothing is refused, and the value that a call hands over
-unfoldable pub answerOf : Refusal → ℕ → ℕ
-answerOf r value = packed (λ v. v) (unless (r .number) (r .line) (done value))
+unfoldable pub packedFrom : Refusal → ℕ → ℕ
+packedFrom r value = packed (λ v. v) (unless (r .number) (r .line) (done value))
 
 -- a crossbar for two buffers: ground 14 also where the record's is shorter than a record, line 0
 unfoldable pub forRecord : ℕ → Outcome Whole → Outcome Whole
@@ -46,18 +47,10 @@ forRecord room o = o then λ w. unless (lowest ((14 when ltb room recordLength) 
 unfoldable pub cellsDue : Whole → ℕ
 cellsDue w = size (w .head)
 
--- the record's buffer and the cells' buffer, of n bytes
-unfoldable pub recordBuffer : ℕ → Outcome Whole → List ℕ
-recordBuffer n o = bufferOf n (λ w. recordBytes (w .head)) o
-
-unfoldable pub cellsBuffer : ℕ → Outcome Whole → List ℕ
-cellsBuffer n o = bufferOf n (λ w. w .codes) o
-
 -- what is handed over for a crossbar: the answer, and every byte of the record's buffer and of the cells' buffer, of n and m bytes
 pub record Delivered (o : Outcome Whole) (n m r : ℕ) (head cells : List ℕ) : Type 0 where
-  pub answer : r ≡ packed cellsDue o
-  pub record-bytes : head ≡ recordBuffer n o
-  pub cell-bytes : cells ≡ cellsBuffer m o
+  pub to-record : Answered o (packed cellsDue) (λ w. recordBytes (w .head)) n r head
+  pub to-cells : Answered o (packed cellsDue) (λ w. w .codes) m r cells
 
 -- map: job text, and the lengths of the two buffers
 unfoldable pub hostMap : List ℕ → ℕ → ℕ → Outcome Whole
@@ -67,9 +60,9 @@ hostMap text record-room cells-room = forRecord record-room (mapJob text cells-r
 unfoldable pub hostLoad : List ℕ → ℕ → ℕ → Outcome Whole
 hostLoad text record-room cells-room = forRecord record-room (load text cells-room)
 
--- ground 12 on a record that is handed over as bytes: also where there are not as many as a record has, line 0
+-- ground 12 on a record that is handed over as bytes: also where they are fewer than a record has or one past it is not 0, line 0
 unfoldable pub ofRecord : {A : Type 0} → List ℕ → Outcome A → Outcome A
-ofRecord s rest = unless (lowest ((12 when not (eqb (length s) recordLength)) ∷ [])) 0 rest
+ofRecord s rest = unless (lowest ((12 when not (holdsRecord s)) ∷ [])) 0 rest
 
 -- light: the record's bytes, cells, setting, and the length of the buffer
 unfoldable pub hostLight : List ℕ → List ℕ → List ℕ → ℕ → Outcome Lit
@@ -78,3 +71,23 @@ hostLight s cells setting room = ofRecord s (light (recordFrom s) cells setting 
 -- print: the record's bytes, cells, and the length of the buffer
 unfoldable pub hostPrint : List ℕ → List ℕ → ℕ → Outcome (List ℕ)
 hostPrint s cells room = ofRecord s (print (recordFrom s) cells room)
+
+-- What the five calls promise, for what is handed over to them: r is the answer, and the lists at the end are the buffers after the call
+abbrev pub MapCall : (text head cells : List ℕ) (r : ℕ) (head-after cells-after : List ℕ) → Type 0
+MapCall text head cells r head-after cells-after =
+    Delivered (hostMap text (length head) (length cells)) (length head) (length cells) r head-after cells-after
+
+abbrev pub WalkCall : (text setting : List ℕ) (output r : ℕ) → Type 0
+WalkCall text setting output r = r ≡ packed (λ v. v) (walk text setting output)
+
+abbrev pub LightCall : (head cells setting wires : List ℕ) (r : ℕ) (wires-after : List ℕ) → Type 0
+LightCall head cells setting wires r wires-after =
+    Answered (hostLight head cells setting (length wires)) (packed (λ a. a .count)) (λ a. a .wires) (length wires) r wires-after
+
+abbrev pub PrintCall : (head cells text : List ℕ) (r : ℕ) (text-after : List ℕ) → Type 0
+PrintCall head cells text r text-after =
+    Answered (hostPrint head cells (length text)) (packed length) (λ s. s) (length text) r text-after
+
+abbrev pub LoadCall : (text head cells : List ℕ) (r : ℕ) (head-after cells-after : List ℕ) → Type 0
+LoadCall text head cells r head-after cells-after =
+    Delivered (hostLoad text (length head) (length cells)) (length head) (length cells) r head-after cells-after

@@ -8,9 +8,9 @@ ghost use mathlib.Core.Path.{_≡_};
 ghost use Prim.Native.Nat.{ℕ, _+_, _*_, _≤_};
 ghost use lib.ListN.{length};
 ghost use Rattle.common.specs.Lists.{zeros};
-ghost use Rattle.common.specs.Outcome.{Outcome, refusalOf, valueOf};
+ghost use Rattle.common.specs.Outcome.{Outcome, refusalOf, valueOf, bufferOf};
 ghost use Rattle.cells.specs.Record.{Whole, no-record};
-ghost use Rattle.crossbar.specs.Host.{numberUnit, mostNumber, Numbered, answerOf, forRecord, cellsBuffer, Delivered};
+ghost use Rattle.crossbar.specs.Host.{numberUnit, mostNumber, ByGround, packedFrom, forRecord, Delivered};
 
 // What the number of a refusal counts for in an answer: 2 to the 56th.
 const NUMBER_UNIT: u64 = 72057594037927936;
@@ -18,7 +18,7 @@ const NUMBER_UNIT: u64 = 72057594037927936;
 // The answer for a refusal, or for a value where nothing is refused.
 pub fn pack(refusal: Refusal, value: u64) -> u64
     requires { ⌜ refusal .number ≤ mostNumber ⌝ }
-    ensures { λ r. ⌜ r ≡ answerOf refusal value ⌝ }
+    ensures { λ r. ⌜ r ≡ packedFrom refusal value ⌝ }
 {
     if refusal.number == 0 {
         return value;
@@ -41,11 +41,11 @@ pub fn deliver(refusal: Refusal, x: Crossbar, head: &mut [u8], cells: &mut [u8])
     requires { ⌜ refusal .number ≤ mostNumber ⌝ }
     ensures { λ r.
         ⌜ ((o : Outcome Whole) (m : ℕ)
-        → Numbered o
+        → ByGround o
         → refusal ≡ refusalOf o
         → x ≡ valueOf no-record (λ w. w .head) o
         → length (now (cells .entry)) ≡ m
-        → now (cells .entry) ≡ cellsBuffer m o
+        → now (cells .entry) ≡ bufferOf m (λ w. w .codes) o
         → Delivered (forRecord (length (now (head .entry))) o) (length (now (head .entry))) m r (now (head .exit)) (now (cells .exit))) ⌝ }
 {
     if refusal.number != 0 {

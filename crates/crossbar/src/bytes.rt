@@ -5,7 +5,7 @@ ghost use mathlib.Core.Path.{_≡_};
 ghost use Prim.Native.Nat.{_+_, _*_, _≤_, _<_};
 ghost use lib.ListN.{length};
 ghost use Rattle.common.specs.Lists.{padded};
-ghost use Rattle.crossbar.specs.Bytes.{recordLength, recordBytes, withNumber, withNumbers, numberAt, recordFrom};
+ghost use Rattle.crossbar.specs.Bytes.{recordLength, recordBytes, withNumber, withNumbers, numberAt, recordFrom, holdsRecord};
 
 // How many bytes a record has.
 pub const RECORD_BYTES: usize = 2 * (4 + MAX_OUTPUTS);
@@ -16,6 +16,16 @@ fn number_at(s: &[u8], i: usize) -> u16
     ensures { λ r. ⌜ r ≡ numberAt (now (s .entry)) i ⌝ }
 {
     (s[2 * i] as u16) + 256 * (s[2 * i + 1] as u16)
+}
+
+// Whether bytes hold a record: not fewer than it has, and 0 in every byte past it.
+pub fn holds_record(s: &[u8]) -> bool
+    ensures { λ r. ⌜ r ≡ holdsRecord (now (s .entry)) ⌝ }
+{
+    if s.len() < RECORD_BYTES {
+        return false;
+    }
+    cells::checks::all_zero_from(s, RECORD_BYTES)
 }
 
 // The record that bytes hold.

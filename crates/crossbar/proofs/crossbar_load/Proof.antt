@@ -1,4 +1,4 @@
--- `crossbar::crossbar_load` meets its contract: load answers, and its crossbar is handed over as bytes. Assumes nothing.
+-- `crossbar::crossbar_load` meets its contract: load answers, and its crossbar is handed over as bytes.
 use mathlib.Core.Path.{_≡_}
 use native.Mathlib.Omega.{arith}
 use lib.ListN.{length}
@@ -31,8 +31,7 @@ returns c =
     let args = at-load .before .before .before .before .before .args in
     let beneath = load-beneath (args .text .now) (length (args .cells .now)) (at-load .load .result) _ (at-load .load .ensures) in
     let long : length (at-load .load .last .1 .0) ≡ length (args .cells .now) = omega arith in
-    let delivered = at-deliver .deliver .ensures _ _ (beneath .numbered) (beneath .refusal-is) (beneath .record-is) long (beneath .cells-are) in
-    (delivered .answer, (delivered .record-bytes, delivered .cell-bytes))
+    at-deliver .deliver .ensures _ _ (beneath .numbered) (beneath .refusal-is) (beneath .record-is) long (beneath .cells-are)
 
 pub crossbar-load-spec : {M : Type 1} → statement M
 crossbar-load-spec =

@@ -1,4 +1,4 @@
--- `crossbar::crossbar_map` meets its contract: map answers, and its crossbar is handed over as bytes. Assumes nothing.
+-- `crossbar::crossbar_map` meets its contract: map answers, and its crossbar is handed over as bytes.
 use mathlib.Core.Path.{_≡_}
 use native.Mathlib.Omega.{arith}
 use lib.ListN.{length}
@@ -31,8 +31,7 @@ returns c =
     let args = at-map .before .before .before .before .before .args in
     let beneath = map-beneath (args .text .now) (args .cells .now) _ (at-map .map .result) (at-map .map .ensures) in
     let long : length (at-map .map .last .1 .0) ≡ length (args .cells .now) = omega arith in
-    let delivered = at-deliver .deliver .ensures _ _ (beneath .numbered) (beneath .refusal-is) (beneath .record-is) long (beneath .cells-are) in
-    (delivered .answer, (delivered .record-bytes, delivered .cell-bytes))
+    at-deliver .deliver .ensures _ _ (beneath .numbered) (beneath .refusal-is) (beneath .record-is) long (beneath .cells-are)
 
 pub crossbar-map-spec : {M : Type 1} → statement M
 crossbar-map-spec =

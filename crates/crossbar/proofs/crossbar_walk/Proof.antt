@@ -1,4 +1,4 @@
--- `crossbar::crossbar_walk` meets its contract: walk answers. Assumes nothing.
+-- `crossbar::crossbar_walk` meets its contract: walk answers.
 use Rattle.crossbar.proofs.Calls.{walk-numbers, walk-answered}
 use borrow.Author.Needs.{needs}
 use Rattle.crossbar.proofs.crossbar_walk.Statement.{statement}

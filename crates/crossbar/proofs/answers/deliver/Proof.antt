@@ -1,4 +1,4 @@
--- `crossbar::answers::deliver` meets its contract, by the case of the outcome. Assumes nothing.
+-- `crossbar::answers::deliver` meets its contract, by the case of the outcome.
 use Prim.Native.Nat.{_≤_}
 use mathlib.Core.Path.{refl, ap, _∙_}
 use native.Mathlib.Omega.{arith}

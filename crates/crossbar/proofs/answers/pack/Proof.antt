@@ -1,21 +1,21 @@
--- `crossbar::answers::pack` meets its contract: a number of at most 15 leaves room for every line. Assumes nothing.
+-- `crossbar::answers::pack` meets its contract: a number of at most 15 leaves room for every line.
 use Prim.Native.Nat.{ℕ, _+_, _*_}
 use mathlib.Core.Path.{_≡_, sym, ap}
 use borrow.Author.Needs.{needs}
 use Rattle.common.specs.declared.Refusal.{Refusal}
 use Rattle.common.specs.Outcome.{done}
 use Rattle.common.proofs.Outcome.{unless-none}
-use Rattle.crossbar.specs.Host.{numberUnit, packed, mostNumber, answerOf}
+use Rattle.crossbar.specs.Host.{numberUnit, packed, mostNumber, packedFrom}
 use Rattle.crossbar.proofs.Numbers.{unless-some}
 use Rattle.crossbar.proofs.answers.pack.Statement.{statement}
 use Rattle.crossbar.proofs.answers.pack.Tie as tie
 
-by-value : (r : Refusal) (value : ℕ) → r .number ≡ 0 → value ≡ answerOf r value
-unfolding answerOf packed
+by-value : (r : Refusal) (value : ℕ) → r .number ≡ 0 → value ≡ packedFrom r value
+unfolding packedFrom packed
 by-value r value e = sym (ap (packed (λ v. v)) (unless-none (r .number) (r .line) (done value) e))
 
-by-number : (r : Refusal) (value : ℕ) → (r .number ≡ 0 → ⊥) → r .number * numberUnit + r .line ≡ answerOf r value
-unfolding answerOf packed
+by-number : (r : Refusal) (value : ℕ) → (r .number ≡ 0 → ⊥) → r .number * numberUnit + r .line ≡ packedFrom r value
+unfolding packedFrom packed
 by-number r value e = sym (ap (packed (λ v. v)) (unless-some (r .number) (r .line) (done value) e))
 
 returns : tie.Need-returns

@@ -1,4 +1,4 @@
--- `crossbar::answers::refuse` meets its contract: a number of at most 15 fits. Assumes nothing.
+-- `crossbar::answers::refuse` meets its contract: a number of at most 15 fits.
 use borrow.Author.Needs.{needs}
 use Rattle.crossbar.specs.Host.{mostNumber}
 use Rattle.crossbar.proofs.answers.refuse.Statement.{statement}

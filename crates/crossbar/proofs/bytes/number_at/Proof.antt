@@ -1,4 +1,4 @@
--- `crossbar::bytes::number_at` meets its contract: two bytes make a number of 16 bits. Assumes nothing.
+-- `crossbar::bytes::number_at` meets its contract: two bytes make a number of 16 bits.
 use Prim.Native.Nat.{_+_, _*_}
 use mathlib.Core.Path.{refl}
 use native.Mathlib.Omega.{arith}

@@ -1,4 +1,4 @@
--- `crossbar::bytes::put_number` meets its contract. Assumes nothing.
+-- `crossbar::bytes::put_number` meets its contract.
 use borrow.Author.Needs.{needs}
 use Rattle.crossbar.proofs.bytes.put_number.Statement.{statement}
 use Rattle.crossbar.proofs.bytes.put_number.Tie as tie

@@ -1,4 +1,4 @@
--- `crossbar::bytes::put_outs` meets its contract: before each output row those before it are in the buffer. Assumes nothing.
+-- `crossbar::bytes::put_outs` meets its contract: before each output row those before it are in the buffer.
 use Prim.Native.Nat.{ℕ, _+_, _-_, _≤_, _<_}
 use mathlib.Core.Path.{_≡_, refl, ap, _∙_}
 use mathlib.Core.List.{List}

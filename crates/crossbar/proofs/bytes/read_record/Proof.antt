@@ -1,4 +1,4 @@
--- `crossbar::bytes::read_record` meets its contract: before each output row those before it are in the table. Assumes nothing.
+-- `crossbar::bytes::read_record` meets its contract: before each output row those before it are in the table.
 use Prim.Native.Nat.{ℕ, _+_, _-_, _≤_}
 use mathlib.Core.Path.{_≡_, refl, _∙_}
 use native.Mathlib.Omega.{arith}

@@ -1,4 +1,4 @@
--- `crossbar::bytes::write_record` meets its contract: the numbers of the record go into a clear buffer in turn. Assumes nothing.
+-- `crossbar::bytes::write_record` meets its contract: the numbers of the record go into a clear buffer in turn.
 use Prim.Native.Nat.{_≤_}
 use mathlib.Core.Path.{_≡_, refl, sym, _∙_}
 use mathlib.Core.List.{[], _∷_}
