@@ -78,12 +78,14 @@ pub fn record_bytes(record: &Record) -> Vec<u8> {
         .collect()
 }
 
-/// The way back. Nothing when the slice has another length.
+/// The way back. Nothing when the slice is shorter than a record or has a byte
+/// other than 0 past it.
 pub fn record_of(bytes: &[u8]) -> Option<Record> {
-    if bytes.len() != RECORD_BYTES {
+    let (record, past) = bytes.split_at_checked(RECORD_BYTES)?;
+    if past.iter().any(|&byte| byte != 0) {
         return None;
     }
-    let numbers: Vec<u16> = bytes
+    let numbers: Vec<u16> = record
         .chunks_exact(2)
         .map(|pair| match *pair {
             [low, high] => u16::from_le_bytes([low, high]),

@@ -76,6 +76,37 @@ pub fn records(run: &mut Run) {
             changed.resize(length, 0);
             both(run, &bytes, &changed, record.switches);
         }
+        record_slices(run, &record, &cells);
+    }
+}
+
+/// Zeros past a record are taken as if they were not there; another byte there
+/// is ground 12, and so is a record cut short.
+fn record_slices(run: &mut Run, record: &Record, cells: &[u8]) {
+    let bytes = record_bytes(record);
+    let setting = setting(&mut run.rng, record.switches);
+    let wires = usize::from(record.rows + record.columns);
+    let text = listing(record, cells);
+    let lit = run.light(&bytes, cells, &setting, wires);
+    for more in [1, 2, 56, 72, 300] {
+        let mut longer = bytes.clone();
+        longer.resize(bytes.len() + more, 0);
+        let answer = run.light(&longer, cells, &setting, wires);
+        run.known(&answer, lit.word, &[lit.output(0)]);
+        let answer = run.print(&longer, cells, text.len());
+        run.known(&answer, text.len() as u64, &[&text]);
+        let mut refused = vec![bytes[..bytes.len().saturating_sub(more)].to_vec()];
+        for place in [bytes.len(), longer.len() - 1] {
+            let mut damaged = longer.clone();
+            damaged[place] = run.rng.from_to(1, 255) as u8;
+            refused.push(damaged);
+        }
+        for slice in refused {
+            let answer = run.light(&slice, cells, &setting, wires);
+            run.known_refusal(&answer, 12, 0);
+            let answer = run.print(&slice, cells, text.len());
+            run.known_refusal(&answer, 12, 0);
+        }
     }
 }
 
