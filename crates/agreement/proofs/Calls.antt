@@ -1,126 +1,257 @@
--- Demand 3 of the calls: from their promises and `demand-3`. Assumes nothing.
+-- Demand 3 of the calls: from their promises and `demand-3`.
 use Prim.Native.Nat.{ℕ, _+_, _≤_, _<_}
-use mathlib.Core.Path.{_≡_, sym, ap, subst, _∙_}
+use mathlib.Core.Path.{_≡_, refl, sym, ap, subst, _∙_}
 use mathlib.Core.Logic.{_↔_, Iff·trans, Iff·symm}
 use mathlib.Core.Bool.{true}
-use mathlib.Core.List.{List}
+use mathlib.Core.List.{List, []}
 use lib.ListN.{length, getD}
+use lib.Dec.{ltb}
+use borrow.Author.Tests.{ltb-false}
+use Rattle.common.specs.Limits.{maxOutputs}
 use Rattle.common.specs.Lists.{padded}
-use Rattle.common.specs.Outcome.{Outcome, done, numberOf, lineOf, refusalOf, valueOf, bufferOf}
-use Rattle.common.proofs.Lists.{getD-padded-any}
+use Rattle.common.specs.Outcome.{Outcome, done, bufferOf}
+use Rattle.common.proofs.Lists.{getD-padded-any, length-padded}
+use Rattle.common.proofs.Outcome.{then-done, unless-done, not-met}
 use Rattle.cells.specs.declared.Crossbar.{Crossbar}
 use Rattle.cells.specs.Record.{Whole, size}
 use Rattle.cells.specs.Setting.{isSetting}
 use Rattle.diagram.specs.Diagram.{Diagram}
-use Rattle.jobs.specs.declared.Walked.{Walked}
-use Rattle.jobs.specs.Answer.{walked}
 use Rattle.jobs.specs.Job.{accepted, walk}
-use Rattle.placement.specs.declared.Mapped.{Mapped}
-use Rattle.placement.specs.Answer.{MapAnswers, mapped}
-use Rattle.placement.specs.Placement.{crossbar}
-use Rattle.conduction.specs.declared.Lighted.{Lighted}
-use Rattle.conduction.specs.Light.{Lit, light, lighted, Answers as LightAnswers}
-use Rattle.agreement.specs.Demand3.{Demand3, Reads, WalksToOne, Answers, standsOn}
-use Rattle.agreement.specs.Calls.{Ran, CallsAgree}
+use Rattle.jobs.proofs.Accepted.{accepted-job}
+use Rattle.placement.specs.Placement as placement
+use Rattle.placement.specs.Map.{mapJob}
+use Rattle.placement.proofs.Sound.{mapped-sound, cells-count, outs-count}
+use Rattle.conduction.specs.Chain.{Chain, row}
+use Rattle.conduction.specs.Light.{Lit, light, joined}
+use Rattle.conduction.proofs.Light.{sound-row}
+use Rattle.crossbar.specs.Bytes.{recordLength, recordBytes, recordFrom}
+use Rattle.crossbar.specs.Host.{packed, forRecord, hostMap, hostLight, MapCall, LightCall, WalkCall}
+use Rattle.crossbar.specs.Parts.{numberPart, lowPart}
+use Rattle.crossbar.proofs.Parts.{calls-read}
+use Rattle.crossbar.proofs.Records.{record-written}
+use Rattle.crossbar.proofs.ReadBack.{for-record-long, light-written}
+use Rattle.agreement.specs.Demand3.{Demand3, Reads, WalksToOne, Tells, standsOn}
+use Rattle.agreement.specs.Calls.{inBuffers, BuffersAgree, CallsAgree}
 use Rattle.agreement.proofs.Demand3.{demand-3}
+use Rattle.agreement.proofs.Slices.{chain-same, joined-padded}
 
--- what answers one statement answers an equivalent one
-answers-same : (b : ℕ) (P Q : Type 0) → P ↔ Q → Answers b P → Answers b Q
-answers-same b P Q e a = (
+-- what tells one statement tells an equivalent one
+tells-same : (b : ℕ) (P Q : Type 0) → P ↔ Q → Tells b P → Tells b Q
+tells-same b P Q e a = (
   Iff·trans (a .0) e,
   ((λ z q. a .1 .0 z (e .1 q)), (λ never. a .1 .1 (λ p. never (e .0 p)))),
 )
 
-module _
-    (text before cells : List ℕ)
-    (d : Diagram)
-    (m : Mapped)
-    (setting buffer wires : List ℕ)
-    (l : Lighted)
-    (j : ℕ)
-    (v : Walked)
-    (taken : accepted text ≡ done d)
-    (ran : Ran text before cells d m setting buffer wires l j v)
-  where
-    abbrev claim : Demand3 text d
-    claim = demand-3 text d taken
+module _ (text : List ℕ) (d : Diagram) (taken : accepted text ≡ done d) where
+  abbrev claim : Demand3 text d
+  claim = demand-3 text d taken
 
-    head-placed : claim .whole .head ≡ crossbar d
-    head-placed = ap (λ (x : Whole). x .head) (claim .placed)
+  abbrev whole : Whole
+  whole = claim .whole
 
-    agree-by : CallsAgree d m setting wires l j v
-    unfolding mapped lighted walked refusalOf numberOf lineOf valueOf bufferOf
-    agree-by =
-        let w = claim .whole in
-        let room : size (w .head) ≤ length before = rw head-placed (ran .room) in
-        let wire-room : w .head .rows + w .head .columns ≤ length buffer = rw head-placed (ran .wire-room) in
-        let set = ran .set in
-        let below = ran .below in
-        let m-is : m ≡ record { refusal = record { number = 0; line = 0 }; head = w .head } =
-        ran .map-kept .answer ∙ ap mapped (claim .maps (length before) room) in
-        let cells-are : cells ≡ padded (length before) (w .codes) =
-        ran .map-kept .cells ∙ ap (bufferOf (length before) (λ (x : Whole). x .codes)) (claim .maps (length before) room) in
-        let head-is : m .head ≡ w .head = ap (λ (x : Mapped). x .head) m-is in
-        let runs = claim .lights setting (length before) (length buffer) room set wire-room in
-        let a = runs .0 in
-        let light-is : light (m .head) cells setting (length buffer) ≡ done a =
-        ap (λ (x : Crossbar). light x cells setting (length buffer)) head-is
-        ∙ ap (λ (c : List ℕ). light (w .head) c setting (length buffer)) cells-are
-        ∙ runs .1 in
-        let l-is : l ≡ record { refusal = record { number = 0; line = 0 }; rounds = a .count } =
-        ran .light-kept .answer ∙ ap lighted light-is in
-        let wires-are : wires ≡ padded (length buffer) (a .wires) =
-        ran .light-kept .bytes ∙ ap (bufferOf (length buffer) (λ (x : Lit). x .wires)) light-is in
-        let walking = claim .walks setting j set below in
-        let v-is : v ≡ record { refusal = record { number = 0; line = 0 }; value = walking .0 } =
-        ran .walk-kept ∙ ap walked (walking .1) in
-        let read = claim .reading setting j set below in
-        let row-byte : getD wires (getD (m .head .outs) j 0) 0 ≡ getD (a .wires) (standsOn w j) 0 =
-        ap (λ (x : Crossbar). getD wires (getD (x .outs) j 0) 0) head-is
-        ∙ ap (λ (q : List ℕ). getD q (standsOn w j) 0) wires-are
-        ∙ getD-padded-any (length buffer) (a .wires) (standsOn w j) in
+  -- what holds of the crossbar of an accepted job
+  outs-all : length (whole .head .outs) ≡ maxOutputs
+  outs-all = rw (claim .placed) (outs-count d (accepted-job text d taken .sizes))
+
+  codes-all : length (whole .codes) ≡ size (whole .head)
+  codes-all = rw (claim .placed) (cells-count d)
+
+  some-row : 0 < whole .head .rows
+  some-row =
+      let job = accepted-job text d taken in
+      rw (claim .placed) (sound-row (placement.crossbar d) (placement.cells d) (mapped-sound d (job .facts) (job .sizes)))
+
+  module _ (n m : ℕ) (long : recordLength ≤ n) (fits : size (whole .head) ≤ m) where
+    -- the buffers that map leaves
+    abbrev head : List ℕ
+    head = padded n (recordBytes (whole .head))
+
+    abbrev cells : List ℕ
+    cells = padded m (whole .codes)
+
+    record-is : recordFrom head ≡ whole .head
+    record-is = record-written (whole .head) outs-all n
+
+    stands-same : (j : ℕ) → standsOn (inBuffers head cells) j ≡ standsOn whole j
+    unfolding inBuffers
+    stands-same j = ap (λ (x : Crossbar). getD (x .outs) j 0) record-is
+
+    reads-same : (setting : List ℕ) (j : ℕ) → Reads (inBuffers head cells) setting j ↔ Reads whole setting j
+    unfolding inBuffers
+    reads-same setting j =
+        let alike = joined-padded (whole .head) (whole .codes) m codes-all fits setting in
+        rw record-is (
+          (λ chain. chain-same (whole .head .rows) (whole .head .columns) _ _ some-row alike chain),
+          (λ chain. chain-same (whole .head .rows) (whole .head .columns) _ _ some-row (λ r c hr hc. sym (alike r c hr hc)) chain),
+        )
+
+    light-is : (setting : List ℕ) (room : ℕ) → hostLight head cells setting room ≡ light (whole .head) cells setting room
+    light-is setting room = light-written (whole .head) outs-all n long cells setting room
+
+    lit-by :
+        (setting before : List ℕ) (answer : ℕ) (after : List ℕ)
+        → LightCall head cells setting before answer after
+        → numberPart answer ≡ 0
+        → (a : Lit) × (light (whole .head) cells setting (length before) ≡ done a) × (after ≡ padded (length before) (a .wires))
+    unfolding bufferOf
+    lit-by setting before answer after kept none =
+        let room = length before in
+        let found = calls-read .of-light head cells setting room .none-refused .0 (rw (kept .answer) at none) in
+        let a = found .0 in
+        (a, sym (light-is setting room) ∙ found .1, kept .buffer ∙ ap (bufferOf room (λ (x : Lit). x .wires)) (found .1))
+
+    walked-by :
+        (setting : List ℕ) (j answer : ℕ)
+        → WalkCall text setting j answer
+        → numberPart answer ≡ 0
+        → (walk text setting j ≡ done (lowPart answer))
+    walked-by setting j answer kept none =
+        let read = calls-read .of-walk text setting j in
+        let found = read .none-refused .0 (rw kept at none) in
+        let low : lowPart answer ≡ found .0 = rw kept (read .value-low (found .0) (found .1)) in
+        found .1 ∙ ap done (sym low)
+
+    -- each part of the claim, from the same part of demand 3
+    cells-full : cells ≡ padded (length cells) (placement.cells d)
+    cells-full =
+        let filled : length cells ≡ m = length-padded m (whole .codes) (rw codes-all fits) in
+        rw filled (ap (λ (x : Whole). padded m (x .codes)) (claim .placed))
+
+    rows :
+        (i j : ℕ)
+        → i < length (d .outs)
+        → j < length (d .outs)
+        → ((setting : List ℕ)
+        → isSetting (d .switches) setting ≡ true
+        → Reads (inBuffers head cells) setting i ↔ Reads (inBuffers head cells) setting j)
+        ↔ (standsOn (inBuffers head cells) i ≡ standsOn (inBuffers head cells) j)
+    rows i j hi hj =
+        let one = claim .one-row i j hi hj in (
+          (λ agree.
+              stands-same i
+              ∙ one .0 (λ setting s. Iff·trans (Iff·symm (reads-same setting i)) (Iff·trans (agree setting s) (reads-same setting j)))
+              ∙ sym (stands-same j)),
+          (λ same setting s.
+              Iff·trans (reads-same setting i)
+              (Iff·trans (one .1 (sym (stands-same i) ∙ same ∙ stands-same j) setting s) (Iff·symm (reads-same setting j)))),
+        )
+
+    shown :
+        (setting before : List ℕ) (answer : ℕ) (after : List ℕ) (j : ℕ)
+        → LightCall head cells setting before answer after
+        → numberPart answer ≡ 0
+        → j < length (d .outs)
+        → Tells (getD after (standsOn (inBuffers head cells) j) 0) (Reads (inBuffers head cells) setting j)
+    shown setting before answer after j kept none h =
+        let lit = lit-by setting before answer after kept none in
+        let a = lit .0 in
+        let byte : getD after (standsOn (inBuffers head cells) j) 0 ≡ getD (a .wires) (standsOn whole j) 0 =
+        ap (λ (k : ℕ). getD after k 0) (stands-same j)
+        ∙ ap (λ (q : List ℕ). getD q (standsOn whole j) 0) (lit .2)
+        ∙ getD-padded-any (length before) (a .wires) (standsOn whole j) in
+        rw byte
+        (tells-same _ (Reads whole setting j) (Reads (inBuffers head cells) setting j) (Iff·symm (reads-same setting j))
+        (claim .shown setting m (length before) a j fits (lit .1) h))
+
+    lights :
+        (setting before : List ℕ) (answer : ℕ) (after : List ℕ)
+        → LightCall head cells setting before answer after
+        → isSetting (d .switches) setting ≡ true
+        → recordFrom head .rows + recordFrom head .columns ≤ length before
+        → numberPart answer ≡ 0
+    lights setting before answer after kept s room =
+        let lit = claim .lights setting m (length before) fits s (rw record-is at room) in
+        rw (kept .answer)
+        (calls-read .of-light head cells setting (length before) .none-refused .1 (lit .0, light-is setting (length before) ∙ lit .1))
+
+    walked :
+        (setting : List ℕ) (j answer : ℕ)
+        → WalkCall text setting j answer
+        → numberPart answer ≡ 0
+        → Tells (lowPart answer) (Reads (inBuffers head cells) setting j)
+    walked setting j answer kept none =
+        tells-same _ (Reads whole setting j) (Reads (inBuffers head cells) setting j) (Iff·symm (reads-same setting j))
+        (claim .walked setting j (lowPart answer) (walked-by setting j answer kept none))
+
+    buffers-agree : BuffersAgree text d head cells
+    buffers-agree =
         record {
-          mapped-all = ap (λ (x : Mapped). x .refusal .number) m-is;
-          lit-all = ap (λ (x : Lighted). x .refusal .number) l-is;
-          walked-all = ap (λ (x : Walked). x .refusal .number) v-is;
-          shown =
-              rw row-byte
-              (answers-same (getD (a .wires) (standsOn w j) 0) (Reads w setting j) (WalksToOne d setting j) read
-              (claim .shown setting (length before) (length buffer) a j room (runs .1) below));
-          walk-shown =
-              rw (ap (λ (x : Walked). x .value) v-is)
-              (answers-same (walking .0) (Reads w setting j) (WalksToOne d setting j) read (claim .walked setting j (walking .0) (walking .1)));
-          reading =
-              subst
-              (λ (x : Whole).
-              (other : List ℕ) (i : ℕ)
-              → isSetting (d .switches) other ≡ true
-              → i < length (d .outs)
-              → Reads x other i ↔ WalksToOne d other i)
-              (claim .placed)
-              (claim .reading);
-          one-row = λ i within. subst (λ (x : Crossbar). ((other : List ℕ) → isSetting (d .switches) other ≡ true → WalksToOne d other i ↔ WalksToOne d other j) ↔ (getD (x .outs) i 0 ≡ getD (x .outs) j 0)) (sym head-is) (walks-row i within);
+          placed = record-is ∙ ap (λ (x : Whole). x .head) (claim .placed);
+          cells-placed = cells-full;
+          reading = λ setting j s h. Iff·trans (reads-same setting j) (claim .reading setting j s h);
+          one-row = rows;
+          shown = shown;
+          lights = lights;
+          walked = walked;
+          walks =
+              λ setting j answer kept s h.
+              rw kept (calls-read .of-walk text setting j .none-refused .1 (claim .walks setting j s h));
         }
-      where
-        walks-row :
-            (i : ℕ)
-            → i < length (d .outs)
-            → ((other : List ℕ) → isSetting (d .switches) other ≡ true → WalksToOne d other i ↔ WalksToOne d other j)
-            ↔ (standsOn (claim .whole) i ≡ standsOn (claim .whole) j)
-        walks-row i within =
-            let below = ran .below in
-            let rows = claim .one-row i j within below in (
-              (λ agree.
-                  rows .0
-                  (λ other s.
-                  Iff·trans (claim .reading other i s within) (Iff·trans (agree other s) (Iff·symm (claim .reading other j s below))))),
-              (λ same other s.
-                  Iff·trans (Iff·symm (claim .reading other i s within)) (Iff·trans (rows .1 same other s) (claim .reading other j s below))),
-            )
 
-pub calls-agree :
-    (text before cells : List ℕ) (d : Diagram) (m : Mapped) (setting buffer wires : List ℕ) (l : Lighted) (j : ℕ) (v : Walked)
-    → Ran text before cells d m setting buffer wires l j v
-    → CallsAgree d m setting wires l j v
-calls-agree text before cells d m setting buffer wires l j v ran =
-    agree-by text before cells d m setting buffer wires l j v (ran .taken) ran
+-- a crossbar of map's outcome: that of the job, and the buffers hold it
+record MappedBy (text : List ℕ) (n m : ℕ) (w : Whole) (d : Diagram) : Type 0 where
+  taken : accepted text ≡ done d
+  whole-is : w ≡ record { head = placement.crossbar d; codes = placement.cells d }
+  long : recordLength ≤ n
+  fits : size (placement.crossbar d) ≤ m
+
+mapped-by : (text : List ℕ) (n m : ℕ) (w : Whole) → hostMap text n m ≡ done w → (d : Diagram) × MappedBy text n m w d
+unfolding hostMap forRecord mapJob
+mapped-by text n m w h =
+    let made = then-done (mapJob text m) _ w h in
+    let for-record = unless-done _ 0 (done (made .0)) w (made .2) in
+    let job = then-done (accepted text) _ (made .0) (made .1) in
+    let for-cells = unless-done _ 0 (done _) (made .0) (job .2) in
+    let d = job .0 in
+    let one = for-cells .1 in
+    let two = for-record .1 in (
+      d,
+      record {
+        taken = job .1;
+        whole-is = sym (cc);
+        long = ltb-false n recordLength (not-met 13 (ltb n recordLength) [] (for-record .0));
+        fits = ltb-false m (size (placement.crossbar d)) (not-met 13 (ltb m (size (placement.crossbar d))) [] (for-cells .0));
+      },
+    )
+
+module _ (text head₀ cells₀ : List ℕ) (answer : ℕ) (head cells : List ℕ) (kept : MapCall text head₀ cells₀ answer head cells) where
+  -- map refuses nothing exactly where its outcome is a crossbar
+  none-refused :
+      (numberPart answer ≡ 0) ↔ ((w : Whole) × (hostMap text (length head₀) (length cells₀) ≡ done w))
+  none-refused =
+      rw (kept .to-record .answer) (calls-read .of-map text (length head₀) (length cells₀) .none-refused)
+
+  agree : (d : Diagram) → accepted text ≡ done d → numberPart answer ≡ 0 → BuffersAgree text d head cells
+  unfolding bufferOf
+  agree d taken none =
+      let n = length head₀ in
+      let m = length cells₀ in
+      let found = none-refused .0 none in
+      let job = mapped-by text n m (found .0) (found .1) in
+      let by = job .1 in
+      let also = by .taken in
+      let same : job .0 ≡ d = cc in
+      let claim = demand-3 text d taken in
+      let whole-is : found .0 ≡ claim .whole = by .whole-is ∙ ap (λ (e : Diagram). record { head = placement.crossbar e; codes = placement.cells e }) same ∙ sym (claim .placed) in
+      let outcome : hostMap text n m ≡ done (claim .whole) = found .1 ∙ ap done whole-is in
+      let fits : size (claim .whole .head) ≤ m = rw (claim .placed, ← same) (by .fits) in
+      let head-is : head ≡ padded n (recordBytes (claim .whole .head)) = kept .to-record .buffer ∙ ap (bufferOf n (λ (w : Whole). recordBytes (w .head))) outcome in
+      let cells-are : cells ≡ padded m (claim .whole .codes) = kept .to-cells .buffer ∙ ap (bufferOf m (λ (w : Whole). w .codes)) outcome in
+      rw (head-is, cells-are) (buffers-agree text d taken n m (by .long) fits)
+
+  pub calls-agree : CallsAgree text head₀ cells₀ answer head cells
+  unfolding hostMap
+  calls-agree =
+      record {
+        maps =
+            λ d taken long fits.
+            let claim = demand-3 text d taken in
+            let room : size (claim .whole .head) ≤ length cells₀ = rw (claim .placed) fits in
+            none-refused .1 (claim .whole, for-record-long (length head₀) _ long ∙ claim .maps (length cells₀) room);
+        job =
+            λ none.
+            let found = none-refused .0 none in
+            let job = mapped-by text (length head₀) (length cells₀) (found .0) (found .1) in
+            (job .0, job .1 .taken);
+        agree = agree;
+      }

@@ -1,5 +1,4 @@
--- Demand 3: for each accepted text, its crossbar, readings, walks, rows, light and walk are as specs/Demand3.antt says. Assumes
--- nothing.
+-- Demand 3: for each accepted text, its crossbar, readings, walks, rows, light and walk are as specs/Demand3.antt says.
 use Prim.Native.Nat.{ℕ, _+_, _≤_, _<_}
 use mathlib.Core.Path.{_≡_, refl, sym, ap, _∙_}
 use mathlib.Core.Logic.{_↔_, _⊎_, inl, inr, ⊎-elim}
@@ -31,15 +30,15 @@ use Rattle.conduction.specs.Chain.{Chain, Wire, row, place, Within}
 use Rattle.conduction.specs.Light.{Lit, light, joined, litBy}
 use Rattle.conduction.proofs.Light.{light-answers, light-accepts, sound-row}
 use Rattle.agreement.proofs.Slices.{chain-same, joined-padded, sound-padded}
-use Rattle.agreement.specs.Demand3.{Demand3, Reads, WalksToOne, Answers, standsOn}
+use Rattle.agreement.specs.Demand3.{Demand3, Reads, WalksToOne, Tells, standsOn}
 
 -- the crossbar of a diagram
 abbrev whole : Diagram → Whole
 whole d = record { head = crossbar d; codes = cells d }
 
--- a byte that is 1 exactly when a statement holds, and is 0 or 1, answers it
-answers : (b : ℕ) (P : Type 0) → (b ≡ 0) ⊎ (b ≡ 1) → (b ≡ 1) ↔ P → Answers b P
-answers b P bits e = (
+-- a byte that is 1 exactly when a statement holds, and is 0 or 1, tells whether it holds
+tells : (b : ℕ) (P : Type 0) → (b ≡ 0) ⊎ (b ≡ 1) → (b ≡ 1) ↔ P → Tells b P
+tells b P bits e = (
   e,
   (
     (λ z p. let one : b ≡ 1 = e .1 p in omega arith),
@@ -48,10 +47,10 @@ answers b P bits e = (
 )
 
 -- so does the value of a walk's end
-value-answers : (e : ℕ) (P : Type 0) → P ↔ (e ≡ 1) → Answers (bit (eqb e 1)) P
+value-tells : (e : ℕ) (P : Type 0) → P ↔ (e ≡ 1) → Tells (bit (eqb e 1)) P
 unfolding bit
-value-answers e P reads =
-    answers (bit (eqb e 1)) P (bits (eqb e 1)) (
+value-tells e P reads =
+    tells (bit (eqb e 1)) P (bits (eqb e 1)) (
       (λ h. reads .1 (eqb-true e 1 (bit-one (eqb e 1) h))),
       (λ p. rw (eq-eqb e 1 (reads .0 p))),
     )
@@ -145,14 +144,14 @@ module _ (text : List ℕ) (d : Diagram) (facts : Facts d) (sizes : Sizes d) whe
       → size (crossbar d) ≤ n
       → light (crossbar d) (padded n (cells d)) setting room ≡ done a
       → j < length (d .outs)
-      → Answers (getD (a .wires) (standsOn (whole d) j) 0) (Reads (whole d) setting j)
+      → Tells (getD (a .wires) (standsOn (whole d) j) 0) (Reads (whole d) setting j)
   unfolding crossbar place Within
   shown setting n room a j fits lights h =
       let answer = light-answers (crossbar d) (padded n (cells d)) setting room a lights .answer in
       let r = standsOn (whole d) j in
       let alike = conducts-alike setting n fits in
       let chains = answer .chains (row r) (row-within j h) in
-      answers (getD (a .wires) r 0) (Reads (whole d) setting j) (answer .bits r) (
+      tells (getD (a .wires) r 0) (Reads (whole d) setting j) (answer .bits r) (
         (λ one. chain-same (rowCount d) (columnCount d) _ _ some-row alike (chains .0 one)),
         (λ chain.
             chains .1 (chain-same (rowCount d) (columnCount d) _ _ some-row (λ r c hr hc. sym (alike r c hr hc)) chain)),
@@ -185,7 +184,7 @@ module _ (text : List ℕ) (d : Diagram) (facts : Facts d) (sizes : Sizes d) (ta
   unfolding walk fits13 _then_
   walk-is setting j = rw taken
 
-  walked : (setting : List ℕ) (j v : ℕ) → walk text setting j ≡ done v → Answers v (Reads (whole d) setting j)
+  walked : (setting : List ℕ) (j v : ℕ) → walk text setting j ≡ done v → Tells v (Reads (whole d) setting j)
   unfolding fits13 walkValue
   walked setting j v h =
       let kept = unless-done _ 0 _ v (sym (walk-is setting j) ∙ h) in
@@ -193,7 +192,7 @@ module _ (text : List ℕ) (d : Diagram) (facts : Facts d) (sizes : Sizes d) (ta
       let s = and-left (isSetting (d .switches) setting) (ltb j (length (d .outs))) fits in
       let below = ltb-true j (length (d .outs)) (and-right (isSetting (d .switches) setting) (ltb j (length (d .outs))) fits) in
       let value : bit (eqb (walkEnd d setting (getD (d .outs) j 0)) 1) ≡ v = cc in
-      rw (← value) (value-answers _ (Reads (whole d) setting j) (reading text d facts sizes setting j s below))
+      rw (← value) (value-tells _ (Reads (whole d) setting j) (reading text d facts sizes setting j s below))
 
   walks :
       (setting : List ℕ) (j : ℕ)

@@ -1,5 +1,4 @@
--- A crossbar in a slice longer than its cells: zeros past the cells change neither ground 12 nor what conducts, so no chain. Assumes
--- nothing.
+-- A crossbar in a slice longer than its cells: zeros past the cells change neither ground 12 nor what conducts, so no chain.
 use Prim.Native.Nat.{ℕ, _+_, _*_, _-_, _≤_, _<_}
 use mathlib.Core.Path.{_≡_, refl, sym, ap, _∙_}
 use mathlib.Core.Bool.{Bool, true, _&&_}

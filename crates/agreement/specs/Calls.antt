@@ -1,56 +1,89 @@
--- Demand 3 in terms of the calls' own promises. Document 01, "What an output reads": what light shows, given what map leaves in a buffer
--- that is long enough and a setting, and what walk answers, say whether the output's walk ends at one, and so whether the output reads 1.
--- Whoever has the contracts of map, walk and light has, with this statement, demand 3 of what they run.
--- The proof is `calls-agree` in proofs/Calls.antt: Ran text before cells d m setting buffer wires l j v → CallsAgree d m setting wires l j v.
+-- Demand 3 of the calls that a C program links. Document 01, "What an output reads", as in Demand3.antt, of what `crossbar_map`,
+-- `crossbar_light` and `crossbar_walk` answer and leave in the buffers lent to them: MapCall, LightCall and WalkCall are their contracts
+-- (crates/crossbar/specs/Host.antt), and numberPart and lowPart are CROSSBAR_NUMBER and CROSSBAR_VALUE of include/crossbar.h.
+-- The proof is `calls-agree` in proofs/Calls.antt:
+--   (text head₀ cells₀ : List ℕ) (answer : ℕ) (head cells : List ℕ)
+--   → MapCall text head₀ cells₀ answer head cells → CallsAgree text head₀ cells₀ answer head cells
 use Prim.Native.Nat.{ℕ, _+_, _≤_, _<_}
 use mathlib.Core.Path.{_≡_}
 use mathlib.Core.Logic.{_↔_}
 use mathlib.Core.Bool.{true}
 use mathlib.Core.List.{List}
 use lib.ListN.{length, getD}
+use Rattle.common.specs.Lists.{padded}
 use Rattle.common.specs.Outcome.{done}
-use Rattle.cells.specs.Record.{size}
+use Rattle.cells.specs.Record.{Whole, size}
 use Rattle.cells.specs.Setting.{isSetting}
 use Rattle.diagram.specs.Diagram.{Diagram}
-use Rattle.jobs.specs.declared.Walked.{Walked}
-use Rattle.jobs.specs.Answer.{walked}
-use Rattle.jobs.specs.Job.{accepted, walk}
-use Rattle.placement.specs.declared.Mapped.{Mapped}
-use Rattle.placement.specs.Answer.{MapAnswers}
-use Rattle.placement.specs.Placement.{cells as placedCells, crossbar}
-use Rattle.conduction.specs.declared.Lighted.{Lighted}
-use Rattle.conduction.specs.Light.{Answers as LightAnswers}
-use Rattle.agreement.specs.Demand3.{Reads, WalksToOne, Answers}
+use Rattle.jobs.specs.Job.{accepted}
+use Rattle.placement.specs.Placement as placement
+use Rattle.crossbar.specs.Bytes.{recordLength, recordFrom}
+use Rattle.crossbar.specs.Host.{MapCall, LightCall, WalkCall}
+use Rattle.crossbar.specs.Parts.{numberPart, lowPart}
+use Rattle.agreement.specs.Demand3.{Reads, WalksToOne, Tells, standsOn}
 
--- the three calls have run for a text that is accepted as the diagram d: map on the text, into at least R·C bytes that were `before` and
--- now are `cells`; light on what map left, with a setting of the job's switches, into at least R + C bytes that were `buffer` and now are
--- `wires`; walk on the text, with the setting and an output number below K; and each kept its promise
-pub record Ran (text before cells : List ℕ) (d : Diagram) (m : Mapped) (setting buffer wires : List ℕ) (l : Lighted) (j : ℕ) (v : Walked) : Type 0 where
-  pub taken : accepted text ≡ done d
-  pub room : size (crossbar d) ≤ length before
-  pub wire-room : crossbar d .rows + crossbar d .columns ≤ length buffer
-  pub set : isSetting (d .switches) setting ≡ true
-  pub below : j < length (d .outs)
-  pub map-kept : MapAnswers text before cells m
-  pub light-kept : LightAnswers (m .head) cells setting buffer wires l
-  pub walk-kept : v ≡ walked (walk text setting j)
+-- the crossbar that stands in a record's buffer and in a cells' buffer; bytes past its R·C cells are no cells of it
+unfoldable pub inBuffers : List ℕ → List ℕ → Whole
+inBuffers head cells = record { head = recordFrom head; codes = cells }
 
--- then no call refuses; the byte at the output's row and walk's value both say whether the output's walk ends at one; under every setting
--- each output of the job's crossbar reads 1 exactly when its walk ends at one; and two outputs stand on one row exactly when under every
--- setting both their walks end at one or neither does
-pub record CallsAgree (d : Diagram) (m : Mapped) (setting wires : List ℕ) (l : Lighted) (j : ℕ) (v : Walked) : Type 0 where
-  pub mapped-all : m .refusal .number ≡ 0
-  pub lit-all : l .refusal .number ≡ 0
-  pub walked-all : v .refusal .number ≡ 0
-  pub shown : Answers (getD wires (getD (m .head .outs) j 0) 0) (WalksToOne d setting j)
-  pub walk-shown : Answers (v .value) (WalksToOne d setting j)
+-- what map left for an accepted text that says d: its crossbar, what its outputs read, and what light and walk answer
+pub record BuffersAgree (text : List ℕ) (d : Diagram) (head cells : List ℕ) : Type 0 where
+  -- "Its crossbar is the cells and record that map gives for it", and every byte past the cells is 0
+  pub placed : recordFrom head ≡ placement.crossbar d
+  pub cells-placed : cells ≡ padded (length cells) (placement.cells d)
+  -- an output reads 1 exactly when its walk ends at one
   pub reading :
-      (other : List ℕ) (i : ℕ)
-      → isSetting (d .switches) other ≡ true
-      → i < length (d .outs)
-      → Reads (record { head = crossbar d; codes = placedCells d }) other i ↔ WalksToOne d other i
+      (setting : List ℕ) (j : ℕ)
+      → isSetting (d .switches) setting ≡ true
+      → j < length (d .outs)
+      → Reads (inBuffers head cells) setting j ↔ WalksToOne d setting j
+  -- two outputs read the same under every setting exactly when they stand on one row
   pub one-row :
-      (i : ℕ)
+      (i j : ℕ)
       → i < length (d .outs)
-      → ((other : List ℕ) → isSetting (d .switches) other ≡ true → WalksToOne d other i ↔ WalksToOne d other j)
-      ↔ (getD (m .head .outs) i 0 ≡ getD (m .head .outs) j 0)
+      → j < length (d .outs)
+      → ((setting : List ℕ)
+      → isSetting (d .switches) setting ≡ true
+      → Reads (inBuffers head cells) setting i ↔ Reads (inBuffers head cells) setting j)
+      ↔ (standsOn (inBuffers head cells) i ≡ standsOn (inBuffers head cells) j)
+  -- light, given these two buffers and a setting, answers the reading by the byte at the output's row, unless it refuses
+  pub shown :
+      (setting wires₀ : List ℕ) (answer : ℕ) (wires : List ℕ) (j : ℕ)
+      → LightCall head cells setting wires₀ answer wires
+      → numberPart answer ≡ 0
+      → j < length (d .outs)
+      → Tells (getD wires (standsOn (inBuffers head cells) j) 0) (Reads (inBuffers head cells) setting j)
+  -- it refuses neither a setting of the job's switches nor a buffer of R + C bytes
+  pub lights :
+      (setting wires₀ : List ℕ) (answer : ℕ) (wires : List ℕ)
+      → LightCall head cells setting wires₀ answer wires
+      → isSetting (d .switches) setting ≡ true
+      → recordFrom head .rows + recordFrom head .columns ≤ length wires₀
+      → numberPart answer ≡ 0
+  -- walk, given the job, a setting and an output number, answers the reading by its value, unless it refuses
+  pub walked :
+      (setting : List ℕ) (j answer : ℕ)
+      → WalkCall text setting j answer
+      → numberPart answer ≡ 0
+      → Tells (lowPart answer) (Reads (inBuffers head cells) setting j)
+  -- it refuses neither a setting of the job's switches nor an output number below K
+  pub walks :
+      (setting : List ℕ) (j answer : ℕ)
+      → WalkCall text setting j answer
+      → isSetting (d .switches) setting ≡ true
+      → j < length (d .outs)
+      → numberPart answer ≡ 0
+
+-- map's call on a text, with a record's buffer and a cells' buffer that were head₀ and cells₀ and now are head and cells
+pub record CallsAgree (text head₀ cells₀ : List ℕ) (answer : ℕ) (head cells : List ℕ) : Type 0 where
+  -- it refuses no accepted job where the buffers are long enough
+  pub maps :
+      (d : Diagram)
+      → accepted text ≡ done d
+      → recordLength ≤ length head₀
+      → size (placement.crossbar d) ≤ length cells₀
+      → numberPart answer ≡ 0
+  -- where it refuses nothing, the text is an accepted job's
+  pub job : numberPart answer ≡ 0 → (d : Diagram) × (accepted text ≡ done d)
+  -- and then what it left, light and walk agree with the job
+  pub agree : (d : Diagram) → accepted text ≡ done d → numberPart answer ≡ 0 → BuffersAgree text d head cells

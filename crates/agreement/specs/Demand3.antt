@@ -34,9 +34,9 @@ Reads w setting j = Chain (w .head .rows) (w .head .columns) (joined (w .head) (
 abbrev pub WalksToOne : Diagram → List ℕ → ℕ → Type 0
 WalksToOne d setting j = walkEnd d setting (getD (d .outs) j 0) ≡ 1
 
--- a byte answers a statement: it is 1 exactly when the statement holds, and 0 exactly when it does not
-abbrev pub Answers : ℕ → Type 0 → Type 0
-Answers b P = ((b ≡ 1) ↔ P) × ((b ≡ 0) ↔ (P → ⊥))
+-- a byte tells whether a statement holds: it is 1 exactly when the statement holds, and 0 exactly when it does not
+abbrev pub Tells : ℕ → Type 0 → Type 0
+Tells b P = ((b ≡ 1) ↔ P) × ((b ≡ 0) ↔ (P → ⊥))
 
 -- d is what the accepted text says
 pub record Demand3 (text : List ℕ) (d : Diagram) : Type 0 where
@@ -69,7 +69,7 @@ pub record Demand3 (text : List ℕ) (d : Diagram) : Type 0 where
       → size (whole .head) ≤ length-of-slice
       → light (whole .head) (padded length-of-slice (whole .codes)) setting room ≡ done a
       → j < length (d .outs)
-      → Answers (getD (a .wires) (standsOn whole j) 0) (Reads whole setting j)
+      → Tells (getD (a .wires) (standsOn whole j) 0) (Reads whole setting j)
   -- it refuses neither a setting of the job's switches nor a buffer of R + C bytes
   pub lights :
       (setting : List ℕ) (length-of-slice room : ℕ)
@@ -78,7 +78,7 @@ pub record Demand3 (text : List ℕ) (d : Diagram) : Type 0 where
       → whole .head .rows + whole .head .columns ≤ room
       → (a : Lit) × (light (whole .head) (padded length-of-slice (whole .codes)) setting room ≡ done a)
   -- walk, given the job, a setting and an output number, answers the reading, unless it refuses
-  pub walked : (setting : List ℕ) (j v : ℕ) → walk text setting j ≡ done v → Answers v (Reads whole setting j)
+  pub walked : (setting : List ℕ) (j v : ℕ) → walk text setting j ≡ done v → Tells v (Reads whole setting j)
   -- it refuses neither a setting of the job's switches nor an output number below K
   pub walks :
       (setting : List ℕ) (j : ℕ)
