@@ -1,37 +1,43 @@
--- A test over all entries of a list, taken from a place on: one entry more, an entry that fails, and the list's end. Assumes nothing.
+-- A test over all entries of a list, made entry by entry up to the end: what is known of the entries before a place, and what is left from
+-- there on.
 use Prim.Native.Nat.{ℕ, suc, _+_, _≤_, _<_}
-use mathlib.Core.Path.{_≡_, sym, _∙_}
-use mathlib.Core.Bool.{Bool, true, false, not}
+use mathlib.Core.Path.{_≡_, refl, sym, _∙_}
+use mathlib.Core.Logic.{_⊎_, ⊎-elim}
+use mathlib.Core.Bool.{Bool, true, false, not, _&&_}
 use mathlib.Core.List.{List}
 use native.Mathlib.Numerals.{add-one}
 use lib.ListN.{length, getD, take, drop, drop-of-length-le}
 use lib.Seq.{drop-cons, getD-take, length-take-le}
 use borrow.Author.Tests.{not-true, not-false}
 use Rattle.common.specs.Lists.{all-of}
+use Rattle.common.proofs.Lists.{and-false, and-true}
 
-module _ (f : ℕ → Bool) (l : List ℕ) (i : ℕ) where
-  pub all-from-passed : i < length l → f (getD l i 0) ≡ true → all-of f (drop i l) ≡ all-of f (drop (i + 1) l)
-  unfolding all-of
-  all-from-passed h e = rw (add-one, drop-cons l i 0 h, all-of, e)
+-- how the entry at a place changes what is known: it fails, or it passes
+abbrev pub Seen : (ℕ → Bool) → ℕ → Bool → Bool → Type 0
+Seen f a ok ok′ = ((f a ≡ false) × (ok′ ≡ false)) ⊎ ((f a ≡ true) × (ok′ ≡ ok))
 
-  pub all-from-failed : i < length l → f (getD l i 0) ≡ false → all-of f (drop i l) ≡ false
+module _ (f : ℕ → Bool) (all ok ok′ : Bool) (l : List ℕ) (i : ℕ) where
+  pub checked-next : i < length l → all ≡ ok && all-of f (drop i l) → Seen f (getD l i 0) ok ok′ → all ≡ ok′ && all-of f (drop (i + 1) l)
   unfolding all-of
-  all-from-failed h e = rw (drop-cons l i 0 h, all-of, e)
+  checked-next h e seen =
+      e
+      ∙ rw (add-one, drop-cons l i 0 h, all-of)
+      (⊎-elim
+      (λ (s : (f (getD l i 0) ≡ false) × (ok′ ≡ false)). rw (s .0, s .1) (and-false ok))
+      (λ (s : (f (getD l i 0) ≡ true) × (ok′ ≡ ok)). rw (s .0, s .1))
+      seen)
 
-  pub all-from-end : length l ≤ i → all-of f (drop i l) ≡ true
+  pub checked-end : length l ≤ i → all ≡ ok && all-of f (drop i l) → ok ≡ all
   unfolding all-of
-  all-from-end h = rw (drop-of-length-le l h)
+  checked-end h e = sym (e ∙ rw (drop-of-length-le l h) (and-true ok))
 
 -- the same over the first n entries
-module _ (f : ℕ → Bool) (l : List ℕ) (n i : ℕ) (fits : n ≤ length l) where
-  pub all-first-passed : i < n → f (getD l i 0) ≡ true → all-of f (drop i (take n l)) ≡ all-of f (drop (i + 1) (take n l))
-  all-first-passed h e = all-from-passed f (take n l) i (rw length-take-le h) (rw getD-take e)
+module _ (f : ℕ → Bool) (all ok ok′ : Bool) (l : List ℕ) (n i : ℕ) (fits : n ≤ length l) where
+  pub first-next : i < n → all ≡ ok && all-of f (drop i (take n l)) → Seen f (getD l i 0) ok ok′ → all ≡ ok′ && all-of f (drop (i + 1) (take n l))
+  first-next h e seen = checked-next f all ok ok′ (take n l) i (rw length-take-le h) e (rw getD-take seen)
 
-  pub all-first-failed : i < n → f (getD l i 0) ≡ false → all-of f (drop i (take n l)) ≡ false
-  all-first-failed h e = all-from-failed f (take n l) i (rw length-take-le h) (rw getD-take e)
-
-  pub all-first-end : n ≤ i → all-of f (drop i (take n l)) ≡ true
-  all-first-end h = all-from-end f (take n l) i (rw length-take-le h)
+  pub first-end : n ≤ i → all ≡ ok && all-of f (drop i (take n l)) → ok ≡ all
+  first-end h e = checked-end f all ok ok′ (take n l) i (rw length-take-le h) e
 
 -- what a test that was asked for says of its definition
 pub held : {r x : Bool} → r ≡ x → not r ≡ false → x ≡ true

@@ -1,4 +1,4 @@
--- What a record in range and a sound record have: the sizes within their limits, and the cells. Assumes nothing.
+-- What a record in range and a sound record have: the sizes within their limits, and the cells.
 use Prim.Native.Nat.{ℕ, _+_, _*_, _≤_, _<_}
 use mathlib.Core.Path.{_≡_, refl, sym, _∙_}
 use mathlib.Core.Bool.{Bool, true, false, _&&_}
@@ -18,18 +18,19 @@ pub record Sizes (r c v k : ℕ) : Type 0 where
   pub row : 0 < r
   pub rows : r ≤ maxRows
   pub columns : c ≤ maxColumns
+  pub switches : v ≤ maxSwitches
   pub outputs : k ≤ maxOutputs
   pub cells : r * c ≤ maxRows * maxColumns
 
 -- five tests and a sixth
 six : (a b c d e f : Bool) → a && b && c && d && e && f ≡ true
-    → (a ≡ true) × (b ≡ true) × (c ≡ true) × (f ≡ true)
+    → (a ≡ true) × (b ≡ true) × (c ≡ true) × (d ≡ true) × (f ≡ true)
 six a b c d e f h =
     let to-e = and-left (a && b && c && d && e) f h in
     let to-d = and-left (a && b && c && d) e to-e in
     let to-c = and-left (a && b && c) d to-d in
     let to-b = and-left (a && b) c to-c in
-    (and-left a b to-b, and-right a b to-b, and-right (a && b) c to-c, and-right (a && b && c && d && e) f h)
+    (and-left a b to-b, and-right a b to-b, and-right (a && b) c to-c, and-right (a && b && c) d to-d, and-right (a && b && c && d && e) f h)
 
 pub sizes : (r c v k : ℕ) → inRange r c v k ≡ true → Sizes r c v k
 unfolding inRange
@@ -41,7 +42,8 @@ sizes r c v k h =
       row = leb-true 1 r (tests .0);
       rows = rows;
       columns = columns;
-      outputs = leb-true k maxOutputs (tests .3);
+      switches = leb-true v maxSwitches (tests .3);
+      outputs = leb-true k maxOutputs (tests .4);
       cells = le-trans (mul-le-mul-right c rows) (mul-le-mul-left maxRows columns);
     }
 

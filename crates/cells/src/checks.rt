@@ -1,4 +1,5 @@
-// The checks of a crossbar record and of a setting, which several calls share.
+// The checks of a crossbar record and of a setting, which several calls share. Their loops have one way out, so that they compile to
+// steps of many bytes at once.
 use crate::Crossbar;
 use common::MAX_COLUMNS;
 use common::MAX_OUTPUTS;
@@ -17,29 +18,31 @@ ghost use Rattle.cells.specs.Setting.{isSetting};
 pub fn all_zero_from(s: &[u8], from: usize) -> bool
     ensures { λ r. ⌜ r ≡ all-of (λ b. eqb b 0) (drop from (now (s .entry))) ⌝ }
 {
+    let mut ok = true;
     let mut i = from;
     while i < s.len() {
         if s[i] != 0 {
-            return false;
+            ok = false;
         }
         i += 1;
     }
-    true
+    ok
 }
 
 // Whether none of the first n bytes is above a number.
-fn at_most(s: &[u8], n: usize, most: usize) -> bool
+fn at_most(s: &[u8], n: usize, most: u8) -> bool
     requires { ⌜ n ≤ length (now s) ⌝ }
     ensures { λ r. ⌜ r ≡ all-of (λ k. leb k most) (take n (now (s .entry))) ⌝ }
 {
+    let mut ok = true;
     let mut i = 0;
     while i < n {
-        if most < s[i] as usize {
-            return false;
+        if most < s[i] {
+            ok = false;
         }
         i += 1;
     }
-    true
+    ok
 }
 
 // Whether each of the first n output rows is a row.
@@ -47,32 +50,34 @@ fn outs_below(outs: [u16; MAX_OUTPUTS], n: usize, rows: u16) -> bool
     requires { ⌜ n ≤ maxOutputs ⌝ }
     ensures { λ r. ⌜ r ≡ all-of (λ o. ltb o rows) (take n outs) ⌝ }
 {
+    let mut ok = true;
     let mut i = 0;
     while i < n {
         if outs[i] >= rows {
-            return false;
+            ok = false;
         }
         i += 1;
     }
-    true
+    ok
 }
 
 // Whether every output row from a place on is 0.
 fn outs_zero_from(outs: [u16; MAX_OUTPUTS], from: usize) -> bool
     ensures { λ r. ⌜ r ≡ all-of (λ o. eqb o 0) (drop from outs) ⌝ }
 {
+    let mut ok = true;
     let mut i = from;
     while i < MAX_OUTPUTS {
         if outs[i] != 0 {
-            return false;
+            ok = false;
         }
         i += 1;
     }
-    true
+    ok
 }
 
-// Document 01, "Listing": the sizes of a crossbar in range.
-fn in_range(rows: u16, columns: u16, switches: u16, outputs: u16) -> bool
+// Document 01, "Listing": the sizes of a crossbar in range, of a record or as a listing's first line gives them.
+pub fn in_range(rows: u32, columns: u32, switches: u32, outputs: u32) -> bool
     ensures { λ r. ⌜ r ≡ inRange rows columns switches outputs ⌝ }
 {
     if rows < 1 {
@@ -97,7 +102,12 @@ fn in_range(rows: u16, columns: u16, switches: u16, outputs: u16) -> bool
 pub fn is_sound(x: Crossbar, cells: &[u8]) -> bool
     ensures { λ r. ⌜ r ≡ sound x (now (cells .entry)) ⌝ }
 {
-    if !in_range(x.rows, x.columns, x.switches, x.outputs) {
+    if !in_range(
+        x.rows as u32,
+        x.columns as u32,
+        x.switches as u32,
+        x.outputs as u32,
+    ) {
         return false;
     }
     let size = (x.rows as usize) * (x.columns as usize);
@@ -107,7 +117,7 @@ pub fn is_sound(x: Crossbar, cells: &[u8]) -> bool
     if !all_zero_from(cells, size) {
         return false;
     }
-    if !at_most(cells, size, 1 + 2 * (x.switches as usize)) {
+    if !at_most(cells, size, (1 + 2 * x.switches) as u8) {
         return false;
     }
     let outs = x.outs;

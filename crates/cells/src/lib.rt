@@ -3,9 +3,11 @@ pub mod checks;
 
 use common::MAX_OUTPUTS;
 ghost use mathlib.Core.Path.{_≡_};
-ghost use lib.ListN.{getD};
+ghost use mathlib.Core.Bool.{true};
+ghost use lib.ListN.{length, getD};
 ghost use Rattle.cells.specs.Code.{codeOf, cellOf};
 ghost use Rattle.cells.specs.Conducts.{conducts};
+ghost use Rattle.cells.specs.Setting.{isSetting};
 
 // Document 01, "Placement": "A cell is off, on, or passes when a switch is 1 or 0."
 pub enum Cell {
@@ -64,6 +66,22 @@ pub fn conducts(cell: Cell, setting: &[u8]) -> bool
         Cell::On => true,
         Cell::Yes(x) => switch_at(setting, x) == 1,
         Cell::No(x) => switch_at(setting, x) == 0,
+    }
+}
+
+// The same of a cell by its code. Each byte of the setting is 0 or 1.
+pub fn conducts_code(code: u8, setting: &[u8]) -> bool
+    requires { ⌜ isSetting (length (now setting)) (now setting) ≡ true ⌝ }
+    ensures { λ r. ⌜ r ≡ conducts (now (setting .entry)) (cellOf code) ⌝ }
+{
+    if code < Cell::YES {
+        return code == Cell::ON;
+    }
+    let value = switch_at(setting, code / 2 - 1);
+    if code % 2 == 0 {
+        value == 1
+    } else {
+        value == 0
     }
 }
 

@@ -1,13 +1,14 @@
--- Laws of the lists that the definitions build. Assumes nothing.
+-- Laws of the lists that the definitions build.
 use Prim.Native.Nat.{ℕ, zero, suc, _+_, _-_, _*_, _≤_, _<_}
 use mathlib.Core.Path.{_≡_, refl, sym, ap, _∙_}
 use mathlib.Core.Logic.{_⊎_, inl, inr, ⊎-elim}
 use mathlib.Core.Bool.{Bool, true, false, _&&_, _||_}
 use mathlib.Core.List.{List, [], _∷_, _++_, map, append-assoc, append-nil}
 use native.Mathlib.Omega.{arith}
+use native.Mathlib.Numerals.{add-one}
 use native.Mathlib.Nat.{eq-or-lt-of-le, mul-le-mul-right, zero-mul}
-use lib.ListN.{length, getD, set, replicate, length-append, length-replicate, replicate-append-replicate, List·getD-append}
-use lib.Seq.{getD-append-add, getD-at}
+use lib.ListN.{length, getD, set, drop, replicate, length-append, length-replicate, replicate-append-replicate, List·getD-append}
+use lib.Seq.{drop-cons, getD-append-add, getD-at, set-at}
 use lib.Dec.{eqb, ltb}
 use borrow.Author.Tests.{eqb-true, eqb-false, eq-eqb, ltb-true, ltb-false}
 use Rattle.common.specs.Lists.{bit, zeros, padded, tab, grid, some-below, all-of, any-of, same}
@@ -33,6 +34,14 @@ and-right false b h = absurd (let z : _≡_ {A = ℕ} 0 1 = cc in omega arith)
 pub and-both : (a b : Bool) → a ≡ true → b ≡ true → a && b ≡ true
 and-both a b p q = rw (p, q)
 
+pub and-false : (a : Bool) → a && false ≡ false
+and-false true = refl
+and-false false = refl
+
+pub and-true : (a : Bool) → a && true ≡ a
+and-true true = refl
+and-true false = refl
+
 pub or-cases : (a b : Bool) → a || b ≡ true → (a ≡ true) ⊎ (b ≡ true)
 or-cases true b h = inl refl
 or-cases false b h = inr h
@@ -44,9 +53,19 @@ pub or-right : (a b : Bool) → b ≡ true → a || b ≡ true
 or-right true b h = refl
 or-right false b h = h
 
+pub or-false : (b : Bool) → b || false ≡ b
+or-false true = refl
+or-false false = refl
+
 pub or-none : (a b : Bool) → a || b ≡ false → (a ≡ false) × (b ≡ false)
 or-none true b h = absurd (let z : _≡_ {A = ℕ} 0 1 = cc in omega arith)
 or-none false b h = (refl, h)
+
+-- two truth values that imply one another
+pub both-ways : (a b : Bool) → (a ≡ true → b ≡ true) → (b ≡ true → a ≡ true) → a ≡ b
+both-ways true b f g = sym (f refl)
+both-ways false true f g = g refl
+both-ways false false f g = refl
 
 -- a truth value that is not true is false
 pub by-test : (b : Bool) → (b ≡ true) ⊎ (b ≡ false)
@@ -68,6 +87,9 @@ below-or-not i n = ⊎-elim (λ h. inl (ltb-true i n h)) (λ h. inr (ltb-false i
 pub equal-or-not : (i n : ℕ) → (i ≡ n) ⊎ (i ≡ n → ⊥)
 equal-or-not i n = ⊎-elim (λ h. inl (eqb-true i n h)) (λ h. inr (eqb-false i n h)) (by-test (eqb i n))
 
+pub not-zero : (i : ℕ) → (i ≡ 0 → ⊥) → 0 < i
+not-zero i f = ⊎-elim (λ (p : 0 < i). p) (λ (p : i ≤ 0). absurd (f (omega arith))) (below-or-not 0 i)
+
 pub at-or-below : (i n : ℕ) → i < suc n → (i ≡ n) ⊎ (i < n)
 at-or-below i n h = eq-or-lt-of-le (omega arith)
 
@@ -85,6 +107,14 @@ getD-tab (suc n) f i d h =
     let within : i < length (tab n f) = rw length-tab below in
     List·getD-append (tab n f) (f n ∷ []) d i within ∙ getD-tab n f i d below)
     (at-or-below i n h)
+
+-- a table before the rest of a list, with one entry more
+pub tab-more :
+    (f : ℕ → ℕ) (i : ℕ) (l : List ℕ) → i < length l → set (tab i f ++ drop i l) i (f i) ≡ tab (i + 1) f ++ drop (i + 1) l
+unfolding tab
+tab-more f i l h =
+    rw (add-one, drop-cons l i 0 h)
+    (set-at (tab i f) (getD l i 0) (drop (suc i) l) (f i) i (length-tab i f) ∙ sym (append-assoc (tab i f) (f i ∷ []) (drop (suc i) l)))
 
 pub length-grid : (m n : ℕ) (f : ℕ → ℕ → ℕ) → length (grid m n f) ≡ m * n
 unfolding grid
@@ -164,6 +194,12 @@ pub eq-same : (s : List ℕ) → same s s ≡ true
 unfolding same
 eq-same [] = refl
 eq-same (a ∷ s) = and-both (eqb a a) (same s s) (eq-eqb a a refl) (eq-same s)
+
+-- zeros past a place
+pub drop-zeros : (k n : ℕ) → drop k (zeros n) ≡ zeros (n - k)
+drop-zeros zero n = let e : n ≡ n - 0 = omega arith in ap zeros e
+drop-zeros (suc k) zero = let e : 0 ≡ 0 - suc k = omega arith in ap zeros e
+drop-zeros (suc k) (suc n) = let e : n - k ≡ suc n - suc k = omega arith in drop-zeros k n ∙ ap zeros e
 
 -- padding: the length, and the entries
 pub length-padded : (n : ℕ) (s : List ℕ) → length s ≤ n → length (padded n s) ≡ n

@@ -1,4 +1,4 @@
--- Laws of outcomes: what an outcome that is done says of the steps that led to it. Assumes nothing.
+-- Laws of outcomes: what an outcome that is done says of the steps that led to it.
 use Prim.Native.Nat.{ℕ, zero, suc, _+_}
 use mathlib.Core.Path.{_≡_, refl, sym, ap, _∙_}
 use mathlib.Core.Bool.{Bool, true, false}
@@ -37,3 +37,9 @@ then-is o a f e = rw e
 pub unless-none : {A : Type 0} (k n : ℕ) (o : Outcome A) → k ≡ 0 → unless k n o ≡ o
 unfolding unless
 unless-none k n o e = rw e
+
+-- a number is a refusal
+pub unless-some : {A : Type 0} (k n : ℕ) (o : Outcome A) → (k ≡ 0 → ⊥) → unless k n o ≡ refused k n
+unfolding unless
+unless-some zero n o h = absurd (h refl)
+unless-some (suc k) n o h = refl

@@ -1,4 +1,4 @@
--- `common::clear` meets its contract: the first i bytes are 0 and the others as they were. Assumes nothing.
+-- `common::clear` meets its contract: the first i bytes are 0 and the others as they were.
 use Prim.Native.Nat.{ℕ, _≤_, _-_}
 use mathlib.Core.Path.{_≡_, refl, ap, _∙_}
 use mathlib.Core.List.{List, _++_, append-nil}

@@ -1,32 +1,28 @@
--- `cells::checks::all_zero_from` meets its contract: what is to be shown of the bytes from the start on holds where it holds from i on.
+-- `cells::checks::all_zero_from` meets its contract: all bytes from the start on are 0 where those before i were and those from i on are.
 use Prim.Native.Nat.{_-_}
-use mathlib.Core.Path.{_≡_, refl, sym, _∙_}
+use mathlib.Core.Path.{_≡_, refl}
+use mathlib.Core.Logic.{inl, inr, ⊎-elim}
+use mathlib.Core.Bool.{_&&_}
 use native.Mathlib.Omega.{arith}
 use lib.ListN.{length, drop}
 use lib.Dec.{eqb}
 use borrow.Author.Tests.{eq-eqb, ne-eqb}
 use Rattle.common.specs.Lists.{all-of}
-use Rattle.cells.proofs.Every.{all-from-passed, all-from-failed, all-from-end}
+use Rattle.cells.proofs.Every.{checked-next, checked-end}
 use Rattle.cells.proofs.checks.all_zero_from.Statement.{statement}
 use Rattle.cells.proofs.checks.all_zero_from.Tie as tie
 
 abbrev Inv-loop : tie.InvT-loop
-Inv-loop s from i₀ i = all-of (λ b. eqb b 0) (drop from s) ≡ all-of (λ b. eqb b 0) (drop i s)
+Inv-loop s from ok₀ i₀ ok i = all-of (λ b. eqb b 0) (drop from s) ≡ ok && all-of (λ b. eqb b 0) (drop i s)
 
 abbrev μ-loop : tie.MeasureT-loop
-μ-loop s from i₀ i = length s - i
+μ-loop s from ok₀ i₀ ok i = length s - i
 
 loop-holds : tie.Need-loop-holds Inv-loop μ-loop
 loop-holds c = refl
 
 shared-slice-read-if1 : tie.Need-shared-slice-read-if1 Inv-loop μ-loop
 shared-slice-read-if1 c = omega arith
-
-returns : tie.Need-returns Inv-loop μ-loop
-returns c =
-    let at-loop = c .before .before .before in
-    let s = at-loop .before .args .s .now in
-    sym (at-loop .loop .inv ∙ all-from-failed (λ b. eqb b 0) s (at-loop .loop .i) (omega arith) (ne-eqb _ 0 (c .if1 .taken)))
 
 add-i : tie.Need-add-i Inv-loop μ-loop
 add-i c = omega arith
@@ -37,25 +33,13 @@ loop-less c = omega arith
 loop-again : tie.Need-loop-again Inv-loop μ-loop
 loop-again c =
     let at-loop = c .before .before .before in
-    let s = at-loop .before .args .s .now in
-    at-loop .loop .inv ∙ all-from-passed (λ b. eqb b 0) s (at-loop .loop .i) (omega arith) (eq-eqb _ 0 (c .if1 .left))
+    checked-next (λ b. eqb b 0) _ (at-loop .loop .ok) (c .if1 .ok) (at-loop .before .args .s .now) (at-loop .loop .i) (omega arith) (at-loop .loop .inv)
+    (⊎-elim (λ b. inl (ne-eqb _ 0 (b .0 .taken), b .1)) (λ b. inr (eq-eqb _ 0 (b .0 .left), b .1)) (c .if1 .came))
 
-returns-2 : tie.Need-returns-2 Inv-loop μ-loop
-returns-2 c =
+returns : tie.Need-returns Inv-loop μ-loop
+returns c =
     let at-loop = c .before in
-    let s = at-loop .before .args .s .now in
-    sym (at-loop .loop .inv ∙ all-from-end (λ b. eqb b 0) s (at-loop .loop .i) (omega arith))
+    checked-end (λ b. eqb b 0) _ (at-loop .loop .ok) (at-loop .loop .ok) (at-loop .before .args .s .now) (at-loop .loop .i) (omega arith) (at-loop .loop .inv)
 
 pub all-zero-from-spec : {M : Type 1} → statement M
-all-zero-from-spec =
-    tie.close
-    (tie.spec
-    Inv-loop
-    μ-loop
-    loop-holds
-    shared-slice-read-if1
-    returns
-    add-i
-    loop-less
-    loop-again
-    returns-2)
+all-zero-from-spec = tie.close (tie.spec Inv-loop μ-loop loop-holds shared-slice-read-if1 add-i loop-less loop-again returns)

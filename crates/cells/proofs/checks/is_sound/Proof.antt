@@ -3,19 +3,31 @@ use mathlib.Core.Path.{refl, sym}
 use mathlib.Core.Bool.{true, false}
 use native.Mathlib.Omega.{arith}
 use borrow.Author.Tests.{le-leb, lt-leb}
-use Rattle.common.specs.Limits.{maxRows, maxColumns}
+use Rattle.common.specs.Limits.{maxRows, maxColumns, maxSwitches}
 use Rattle.cells.proofs.Every.{held, broken}
 use Rattle.cells.proofs.Sizes.{sizes, sound-by}
 use borrow.Author.Needs.{needs}
 use Rattle.cells.proofs.checks.is_sound.Statement.{statement}
 use Rattle.cells.proofs.checks.is_sound.Tie as tie
 
+cast-in-range : tie.Need-cast-in-range
+cast-in-range c = search needs
+
+cast-in-range-2 : tie.Need-cast-in-range-2
+cast-in-range-2 c = search needs
+
+cast-in-range-3 : tie.Need-cast-in-range-3
+cast-in-range-3 c = search needs
+
+cast-in-range-4 : tie.Need-cast-in-range-4
+cast-in-range-4 c = search needs
+
 in-range-requires : tie.Need-in-range-requires
 in-range-requires c κs = search needs
 
 returns : tie.Need-returns
 returns c =
-    let at = c .before .before .before .args in
+    let at = c .before .before .before .before .before .before .before .args in
     sym (sound-by (at .x) (at .cells .now) false _ _ _ _ _ (broken (c .before .in-range .ensures) (c .if1 .taken)) refl refl refl refl refl)
 
 cast-size : tie.Need-cast-size
@@ -31,7 +43,7 @@ mul-size c = omega (arith, sizes _ _ _ _ (held (c .before .before .before .in-ra
 returns-2 : tie.Need-returns-2
 returns-2 c =
     let else1 = c .before .before .before in
-    let at = else1 .before .before .before .args in
+    let at = else1 .before .before .before .before .before .before .before .args in
     sym
     (sound-by (at .x) (at .cells .now) true false _ _ _ _
     (held (else1 .before .in-range .ensures) (else1 .if1 .left))
@@ -44,21 +56,30 @@ returns-3 : tie.Need-returns-3
 returns-3 c =
     let else2 = c .before .before in
     let else1 = else2 .before .before .before in
-    let at = else1 .before .before .before .args in
+    let at = else1 .before .before .before .before .before .before .before .args in
     sym
     (sound-by (at .x) (at .cells .now) true true false _ _ _
     (held (else1 .before .in-range .ensures) (else1 .if1 .left))
     (le-leb _ _ (else2 .if2 .left))
     (broken (c .before .all-zero-from .ensures) (c .if3 .taken)) refl refl refl)
 
-cast-at-most : tie.Need-cast-at-most
-cast-at-most c = search needs
-
 mul-at-most : tie.Need-mul-at-most
-mul-at-most c = search needs
+unfolding maxSwitches
+mul-at-most c =
+    let else1 = c .before .before .before .before .before .before in
+    omega (arith, sizes _ _ _ _ (held (else1 .before .in-range .ensures) (else1 .if1 .left)) .switches)
 
 add-at-most : tie.Need-add-at-most
-add-at-most c = search needs
+unfolding maxSwitches
+add-at-most c =
+    let else1 = c .before .before .before .before .before .before in
+    omega (arith, sizes _ _ _ _ (held (else1 .before .in-range .ensures) (else1 .if1 .left)) .switches)
+
+cast-at-most : tie.Need-cast-at-most
+unfolding maxSwitches
+cast-at-most c =
+    let else1 = c .before .before .before .before .before .before in
+    omega (arith, sizes _ _ _ _ (held (else1 .before .in-range .ensures) (else1 .if1 .left)) .switches)
 
 at-most-requires : tie.Need-at-most-requires
 at-most-requires c κs = search needs
@@ -68,7 +89,7 @@ returns-4 c =
     let else3 = c .before .before .before in
     let else2 = else3 .before .before in
     let else1 = else2 .before .before .before in
-    let at = else1 .before .before .before .args in
+    let at = else1 .before .before .before .before .before .before .before .args in
     sym
     (sound-by (at .x) (at .cells .now) true true true false _ _
     (held (else1 .before .in-range .ensures) (else1 .if1 .left))
@@ -90,7 +111,7 @@ returns-5 c =
     let else3 = else4 .before .before .before in
     let else2 = else3 .before .before in
     let else1 = else2 .before .before .before in
-    let at = else1 .before .before .before .args in
+    let at = else1 .before .before .before .before .before .before .before .args in
     sym
     (sound-by (at .x) (at .cells .now) true true true true false _
     (held (else1 .before .in-range .ensures) (else1 .if1 .left))
@@ -109,7 +130,7 @@ returns-6 c =
     let else3 = else4 .before .before .before in
     let else2 = else3 .before .before in
     let else1 = else2 .before .before .before in
-    let at = else1 .before .before .before .args in
+    let at = else1 .before .before .before .before .before .before .before .args in
     sym
     (sound-by (at .x) (at .cells .now) true true true true true _
     (held (else1 .before .in-range .ensures) (else1 .if1 .left))
@@ -123,6 +144,10 @@ pub is-sound-spec : {M : Type 1} → statement M
 is-sound-spec =
     tie.close
     (tie.spec
+    cast-in-range
+    cast-in-range-2
+    cast-in-range-3
+    cast-in-range-4
     in-range-requires
     returns
     cast-size
@@ -131,9 +156,9 @@ is-sound-spec =
     returns-2
     all-zero-from-requires
     returns-3
-    cast-at-most
     mul-at-most
     add-at-most
+    cast-at-most
     at-most-requires
     returns-4
     cast-used
