@@ -44,7 +44,7 @@ pub fn check<'a>(record: &[u8], cells: &'a [u8]) -> Result<Crossbar<'a>, Refused
 }
 
 fn found<'a>(record: &[u8], cells: &'a [u8]) -> Option<Crossbar<'a>> {
-    let record: &[u8; BYTES] = record.try_into().ok()?;
+    let (record, past_record) = record.split_first_chunk::<BYTES>()?;
     let number = |place: usize| u16::from_le_bytes([record[2 * place], record[2 * place + 1]]);
     let sizes = Sizes {
         rows: usize::from(number(0)),
@@ -72,8 +72,11 @@ fn found<'a>(record: &[u8], cells: &'a [u8]) -> Option<Crossbar<'a>> {
     let (cells, past) = cells.split_at_checked(sizes.rows * sizes.columns)?;
     // Every byte is looked at, so that the loops have one way out.
     let most = cells.iter().fold(0, |most, &code| code.max(most));
-    let any = past.iter().fold(0, |any, &byte| any | byte);
-    if usize::from(most) > 1 + 2 * sizes.switches || any != 0 {
+    let any = |bytes: &[u8]| bytes.iter().fold(0, |any, &byte| any | byte) != 0;
+    if any(past_record) || any(past) {
+        return None;
+    }
+    if usize::from(most) > 1 + 2 * sizes.switches {
         return None;
     }
     Some(Crossbar { sizes, cells, outs })

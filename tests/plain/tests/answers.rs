@@ -106,13 +106,14 @@ fn load() {
 }
 
 fn light_and_print(rng: &mut Rng, record: &Record, cells: &[u8], met: &mut [usize; 16]) {
-    let bytes = record_bytes(record);
-    let length = near(rng, 72);
-    let bytes = if rng.once_in(30) && length < 72 {
-        &bytes[..length]
-    } else {
-        &bytes
-    };
+    let mut bytes = record_bytes(record);
+    if rng.once_in(8) {
+        bytes.resize(near(rng, bytes.len()), 0);
+    }
+    if rng.once_in(30) {
+        bytes.push(rng.below(3) as u8);
+    }
+    let bytes = &bytes;
     let wires = usize::from(record.rows) + usize::from(record.columns);
     met[same(Call::Light {
         record: bytes,
