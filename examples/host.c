@@ -1,6 +1,6 @@
 /*
- * Maps a job, lights its crossbar under every setting of its switches, and prints each output's reading beside the value that the
- * diagram itself gives:
+ * A host program: maps a job, lights its crossbar under every setting of its switches, and prints each output's reading beside the
+ * value that the diagram itself gives:
  *
  *     cc -std=c99 -Iinclude examples/host.c target/staticlib/libcrossbar.a -o host
  *     ./host [job file]
@@ -33,12 +33,6 @@ static uint8_t record[CROSSBAR_RECORD_BYTES];
 static uint8_t cells[CROSSBAR_MAX_CELLS];
 static uint8_t wires[CROSSBAR_MAX_WIRES];
 static uint8_t listing[CROSSBAR_MAX_LISTING];
-
-/* A number of the record: 0 rows, 1 columns, 2 switches, 3 outputs, 4 + j the row of output j. */
-static unsigned record_number(size_t place)
-{
-    return record[2 * place] + 256u * record[2 * place + 1];
-}
 
 /* Says why a call was refused. */
 static int refused(const char *call, uint64_t answer)
@@ -73,8 +67,8 @@ int main(int argc, char **argv)
     answer = crossbar_map(text, length, record, sizeof record, cells, sizeof cells);
     if (CROSSBAR_NUMBER(answer) != 0)
         return refused("map", answer);
-    switches = record_number(2);
-    outputs = record_number(3);
+    switches = crossbar_switches(record);
+    outputs = crossbar_outputs(record);
 
     /* The listing. */
     answer = crossbar_print(record, sizeof record, cells, sizeof cells, listing, sizeof listing);
@@ -94,7 +88,7 @@ int main(int argc, char **argv)
         if (CROSSBAR_NUMBER(answer) != 0)
             return refused("light", answer);
         for (output = 0; output < outputs; output++) {
-            unsigned reading = wires[record_number(4 + output)];
+            unsigned reading = crossbar_reads(record, wires, output);
             uint64_t value = crossbar_walk(text, length, setting, switches, output);
             if (CROSSBAR_NUMBER(value) != 0)
                 return refused("walk", value);

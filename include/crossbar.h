@@ -9,6 +9,12 @@
  * Every call answers one number. Its highest byte is the refusal's number, 0 where nothing is refused; the rest is then the value
  * that the call's comment names, and after a refusal the line, 0 where the ground has none. After a refusal every output slice
  * holds zeros. Otherwise the bytes past the answer are 0. What an output slice held before never matters.
+ *
+ * What the library needs of the host: the two functions memcpy and memset of the C standard, and nothing else: no allocator, no
+ * input or output, no start-up code. A host without a C library has to give these two. The code is for x86-64 with the calling
+ * convention of Linux (System V), and it is position independent.
+ *
+ * The five calls are proved. The macros and the small functions of this file are C; they are tested and not proved.
  */
 #ifndef CROSSBAR_H
 #define CROSSBAR_H
@@ -20,6 +26,15 @@
 extern "C" {
 #endif
 
+/*
+ * The version of this header and of the library that belongs to it. The first figure rises where a host has to change: a call, a
+ * text, a record or an answer means something else than before. The second rises where something is added.
+ */
+#define CROSSBAR_VERSION_MAJOR 1
+#define CROSSBAR_VERSION_MINOR 1
+#define CROSSBAR_VERSION_PATCH 0
+#define CROSSBAR_VERSION "1.1.0"
+
 /* Limits. */
 #define CROSSBAR_MAX_ROWS 128
 #define CROSSBAR_MAX_COLUMNS 128
@@ -27,14 +42,14 @@ extern "C" {
 #define CROSSBAR_MAX_NODES 254
 #define CROSSBAR_MAX_OUTPUTS 32
 
-/* Sizes that are always enough for a slice, in bytes. A record is always CROSSBAR_RECORD_BYTES. */
+/* Sizes that are always enough for a slice, in bytes. A record takes CROSSBAR_RECORD_BYTES. */
 #define CROSSBAR_RECORD_BYTES 72
 #define CROSSBAR_MAX_CELLS (CROSSBAR_MAX_ROWS * CROSSBAR_MAX_COLUMNS)
 #define CROSSBAR_MAX_WIRES (CROSSBAR_MAX_ROWS + CROSSBAR_MAX_COLUMNS)
 #define CROSSBAR_MAX_LISTING 393728
 #define CROSSBAR_STACK 32768
 
-/* The parts of an answer. */
+/* The parts of an answer: the number of refusal, the value where it is 0, the line where it is not. */
 #define CROSSBAR_NUMBER(answer) ((unsigned)((uint64_t)(answer) >> 56))
 #define CROSSBAR_VALUE(answer) ((uint64_t)(answer) & (((uint64_t)1 << 56) - 1))
 #define CROSSBAR_LINE(answer) CROSSBAR_VALUE(answer)
@@ -53,15 +68,23 @@ extern "C" {
 #define CROSSBAR_AFTER_END 10          /* bytes follow `(end)` */
 #define CROSSBAR_TOO_LARGE 11          /* more than 128 rows or columns */
 #define CROSSBAR_BAD_CROSSBAR 12       /* a listing's cell, switch or output row is out of place; in a record also a size, a
-                                          code, the length of a slice, a byte past the cells or an unused output row */
+                                          code, a slice too short, a byte past the record or the cells, an unused output row */
 #define CROSSBAR_SETTING 13            /* the setting is not V bytes of 0 or 1, or the output number is not below K */
 #define CROSSBAR_SHORT_BUFFER 14       /* an output slice is shorter than the answer */
-#define CROSSBAR_UNSETTLED 15          /* the light is not at rest after R + C - 1 rounds */
+#define CROSSBAR_UNSETTLED 15          /* the light is not at rest after R + C - 1 rounds; proved never to come */
+#define CROSSBAR_LAST_NUMBER 15
+
+/* The codes of the cells that have no switch, and of those that have one; x is below CROSSBAR_MAX_SWITCHES. */
+#define CROSSBAR_OFF 0
+#define CROSSBAR_ON 1
+#define CROSSBAR_YES(x) ((uint8_t)(2 + 2 * (x))) /* passes when switch x is 1 */
+#define CROSSBAR_NO(x) ((uint8_t)(3 + 2 * (x)))  /* passes when switch x is 0 */
 
 /*
  * A record is CROSSBAR_RECORD_BYTES bytes: 36 numbers of two bytes each, low byte first: R rows, C columns, V switches, K outputs,
  * and 32 output rows, the unused ones 0. Cells are R * C bytes, row by row: 0 off, 1 on, 2 + 2 * x passes when switch x is 1,
- * 3 + 2 * x passes when it is 0. A setting is V bytes, each 0 or 1, switch 0 first.
+ * 3 + 2 * x passes when it is 0. A setting is V bytes, each 0 or 1, switch 0 first. A slice of a record or of cells may be longer
+ * than these, with zeros past them. The functions after the calls read and write these bytes, so that a host need not count them.
  */
 
 /* Job text in; record and cells out. Value: R * C. Refuses 1 to 11, then 14 for a record slice or a cell slice too short. */
@@ -76,14 +99,14 @@ uint64_t crossbar_walk(const uint8_t *text, size_t text_length,
 
 /*
  * Record, cells and setting in; one byte a wire out, rows and then columns, 1 lit and 0 dark. Value: the count of rounds.
- * Refuses 12 (a record slice of another length too), 13, 14, 15.
+ * Refuses 12 (also a record slice that is shorter than a record, or has a byte past it other than 0), 13, 14, 15.
  */
 uint64_t crossbar_light(const uint8_t *record, size_t record_length,
                         const uint8_t *cells, size_t cells_length,
                         const uint8_t *setting, size_t setting_length,
                         uint8_t *wires, size_t wires_length);
 
-/* Record and cells in; listing text out. Value: the text's length. Refuses 12 (a record slice of another length too), 14. */
+/* Record and cells in; listing text out. Value: the text's length. Refuses 12 (as light does), 14. */
 uint64_t crossbar_print(const uint8_t *record, size_t record_length,
                         const uint8_t *cells, size_t cells_length,
                         uint8_t *text, size_t text_length);
@@ -92,6 +115,105 @@ uint64_t crossbar_print(const uint8_t *record, size_t record_length,
 uint64_t crossbar_load(const uint8_t *text, size_t text_length,
                        uint8_t *record, size_t record_length,
                        uint8_t *cells, size_t cells_length);
+
+/* A number of a record: 0 rows, 1 columns, 2 switches, 3 outputs, 4 + j the row of output j. */
+static inline unsigned crossbar_number_at(const uint8_t *record, unsigned place)
+{
+    return record[2 * place] + 256u * record[2 * place + 1];
+}
+
+static inline void crossbar_put_number(uint8_t *record, unsigned place, unsigned number)
+{
+    record[2 * place] = (uint8_t)(number % 256);
+    record[2 * place + 1] = (uint8_t)(number / 256);
+}
+
+/* What a record says. An output is below CROSSBAR_MAX_OUTPUTS. */
+static inline unsigned crossbar_rows(const uint8_t *record)
+{
+    return crossbar_number_at(record, 0);
+}
+
+static inline unsigned crossbar_columns(const uint8_t *record)
+{
+    return crossbar_number_at(record, 1);
+}
+
+static inline unsigned crossbar_switches(const uint8_t *record)
+{
+    return crossbar_number_at(record, 2);
+}
+
+static inline unsigned crossbar_outputs(const uint8_t *record)
+{
+    return crossbar_number_at(record, 3);
+}
+
+static inline unsigned crossbar_output_row(const uint8_t *record, unsigned output)
+{
+    return crossbar_number_at(record, 4 + output);
+}
+
+/* A record of these sizes, each of its outputs on row 0. */
+static inline void crossbar_start_record(uint8_t *record, unsigned rows, unsigned columns, unsigned switches, unsigned outputs)
+{
+    unsigned output;
+
+    crossbar_put_number(record, 0, rows);
+    crossbar_put_number(record, 1, columns);
+    crossbar_put_number(record, 2, switches);
+    crossbar_put_number(record, 3, outputs);
+    for (output = 0; output < CROSSBAR_MAX_OUTPUTS; output++)
+        crossbar_put_number(record, 4 + output, 0);
+}
+
+static inline void crossbar_put_output_row(uint8_t *record, unsigned output, unsigned row)
+{
+    crossbar_put_number(record, 4 + output, row);
+}
+
+/* The cell where a row and a column meet: its code, read and written. */
+static inline uint8_t crossbar_cell(const uint8_t *record, const uint8_t *cells, unsigned row, unsigned column)
+{
+    return cells[(size_t)row * crossbar_columns(record) + column];
+}
+
+static inline void crossbar_put_cell(const uint8_t *record, uint8_t *cells, unsigned row, unsigned column, uint8_t code)
+{
+    cells[(size_t)row * crossbar_columns(record) + column] = code;
+}
+
+/* A code: has it a switch, which one, and does it pass when that switch is 1 (else when it is 0)? */
+static inline int crossbar_has_switch(uint8_t code)
+{
+    return code > CROSSBAR_ON;
+}
+
+static inline unsigned crossbar_switch_of(uint8_t code)
+{
+    return (code - 2u) / 2u;
+}
+
+static inline int crossbar_passes_at_one(uint8_t code)
+{
+    return code % 2 == 0;
+}
+
+/* What light gave: 1 where a row, a column or an output's row is lit, else 0. */
+static inline unsigned crossbar_row_lit(const uint8_t *wires, unsigned row)
+{
+    return wires[row] != 0;
+}
+
+static inline unsigned crossbar_column_lit(const uint8_t *record, const uint8_t *wires, unsigned column)
+{
+    return wires[crossbar_rows(record) + column] != 0;
+}
+
+static inline unsigned crossbar_reads(const uint8_t *record, const uint8_t *wires, unsigned output)
+{
+    return crossbar_row_lit(wires, crossbar_output_row(record, output));
+}
 
 #ifdef __cplusplus
 }

@@ -1,6 +1,6 @@
 /*
- * The header by itself: it needs no other header before it, may be included twice, and declares the five calls as they are linked.
- * C99 and C++.
+ * The header by itself: it needs no other header before it, may be included twice, declares the five calls as they are linked, and
+ * its small functions read and write what the calls do. C99 and C++.
  */
 #include "crossbar.h"
 #include "crossbar.h"
@@ -14,6 +14,7 @@ typedef char max_outputs[CROSSBAR_MAX_OUTPUTS == 32 ? 1 : -1];
 typedef char max_cells[CROSSBAR_MAX_CELLS == 16384 ? 1 : -1];
 typedef char max_listing[CROSSBAR_MAX_LISTING == 393728 ? 1 : -1];
 typedef char max_wires[CROSSBAR_MAX_WIRES == 256 ? 1 : -1];
+typedef char last_number[CROSSBAR_LAST_NUMBER == CROSSBAR_UNSETTLED ? 1 : -1];
 
 /* The numbers of document 01, in its order. */
 static const int numbers[] = {
@@ -33,6 +34,52 @@ static uint64_t (*const load)(const uint8_t *, size_t, uint8_t *, size_t, uint8_
 static int is(uint64_t answer, unsigned number, uint64_t line)
 {
     return CROSSBAR_NUMBER(answer) == number && CROSSBAR_LINE(answer) == line;
+}
+
+/* Document 004's half adder, written by the header's functions: r0: B, not B; r1: A, off; r2: not A, A; A is switch 0. */
+static void write_adder(uint8_t *record, uint8_t *cells)
+{
+    crossbar_start_record(record, 3, 2, 2, 2);
+    crossbar_put_output_row(record, 0, 2);
+    crossbar_put_output_row(record, 1, 1);
+    crossbar_put_cell(record, cells, 0, 0, CROSSBAR_YES(1));
+    crossbar_put_cell(record, cells, 0, 1, CROSSBAR_NO(1));
+    crossbar_put_cell(record, cells, 1, 0, CROSSBAR_YES(0));
+    crossbar_put_cell(record, cells, 1, 1, CROSSBAR_OFF);
+    crossbar_put_cell(record, cells, 2, 0, CROSSBAR_NO(0));
+    crossbar_put_cell(record, cells, 2, 1, CROSSBAR_YES(0));
+}
+
+/* The small functions read back what was written, and light reads it the same way: the sum and the carry under all settings. */
+static int functions_agree(void)
+{
+    uint8_t record[CROSSBAR_RECORD_BYTES], cells[6], wires[5], setting[2];
+    unsigned a, b;
+
+    write_adder(record, cells);
+    if (crossbar_rows(record) != 3 || crossbar_columns(record) != 2 || crossbar_switches(record) != 2 || crossbar_outputs(record) != 2)
+        return 0;
+    if (crossbar_output_row(record, 0) != 2 || crossbar_output_row(record, 1) != 1 || crossbar_output_row(record, 31) != 0)
+        return 0;
+    if (crossbar_cell(record, cells, 2, 1) != 2 || crossbar_has_switch(CROSSBAR_ON) || !crossbar_has_switch(CROSSBAR_YES(0)))
+        return 0;
+    if (crossbar_switch_of(CROSSBAR_YES(63)) != 63 || crossbar_switch_of(CROSSBAR_NO(63)) != 63 || CROSSBAR_NO(63) != 129)
+        return 0;
+    if (!crossbar_passes_at_one(CROSSBAR_YES(7)) || crossbar_passes_at_one(CROSSBAR_NO(7)))
+        return 0;
+    for (a = 0; a < 2; a++)
+        for (b = 0; b < 2; b++) {
+            setting[0] = (uint8_t)a;
+            setting[1] = (uint8_t)b;
+            if (CROSSBAR_NUMBER(light(record, sizeof record, cells, sizeof cells, setting, 2, wires, sizeof wires)) != 0)
+                return 0;
+            if (crossbar_reads(record, wires, 0) != (a ^ b) || crossbar_reads(record, wires, 1) != (a & b))
+                return 0;
+            if (crossbar_row_lit(wires, 0) != 1 || crossbar_column_lit(record, wires, 0) != b)
+                return 0;
+        }
+    crossbar_put_number(record, 0, 513);
+    return crossbar_number_at(record, 0) == 513;
 }
 
 int main(void)
@@ -55,5 +102,7 @@ int main(void)
         return 6;
     if (!is(load(NULL, 0, NULL, 0, NULL, 0), CROSSBAR_NOT_THE_FORM, 1))
         return 7;
+    if (!functions_agree())
+        return 8;
     return 0;
 }

@@ -89,10 +89,7 @@ static void make_job(void)
 static void make_crossbar(void)
 {
     size_t i;
-    full_record[0] = 128;
-    full_record[2] = 128;
-    full_record[4] = 64;
-    full_record[6] = 32;
+    crossbar_start_record(full_record, 128, 128, 64, 32);
     memset(full, 128, sizeof full);
     for (i = 0; i < 128; i++) {
         stair[i * 128 + i] = 1;

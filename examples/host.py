@@ -1,0 +1,78 @@
+"""The library from Python: maps a job and prints what each output reads under every setting, beside the walk's value.
+
+    python3 examples/host.py JOB [LIBRARY]
+
+LIBRARY is the shared library, libcrossbar.so of the system without it. The exit status is 1 where a call refuses or a reading is not
+the walk's value.
+"""
+import ctypes
+import itertools
+import sys
+
+RECORD_BYTES = 72
+MAX_CELLS = 128 * 128
+MAX_WIRES = 128 + 128
+
+
+def library(path):
+    """The shared library; every call answers 64 bits."""
+    lib = ctypes.CDLL(path)
+    for name in ("map", "walk", "light", "print", "load"):
+        getattr(lib, "crossbar_" + name).restype = ctypes.c_uint64
+    return lib
+
+
+def given(data):
+    """A slice that is handed in: a pointer and a length."""
+    return ctypes.c_char_p(bytes(data)), ctypes.c_size_t(len(data))
+
+
+def lent(buffer):
+    """A slice that is lent for the answer."""
+    return buffer, ctypes.c_size_t(len(buffer))
+
+
+def value(call, answer):
+    """The value of an answer; a refusal is an error. The number of refusal is the highest byte."""
+    number, rest = answer >> 56, answer & ((1 << 56) - 1)
+    if number != 0:
+        raise ValueError(f"{call}: refused {number}, line {rest}")
+    return rest
+
+
+def number_at(record, place):
+    """A number of a record: 0 rows, 1 columns, 2 switches, 3 outputs, 4 + j the row of output j."""
+    return int.from_bytes(record.raw[2 * place:2 * place + 2], "little")
+
+
+def show(lib, job):
+    """Prints a line for each setting. Is every reading the walk's value?"""
+    record = ctypes.create_string_buffer(RECORD_BYTES)
+    cells = ctypes.create_string_buffer(MAX_CELLS)
+    wires = ctypes.create_string_buffer(MAX_WIRES)
+    value("map", lib.crossbar_map(*given(job), *lent(record), *lent(cells)))
+    switches, outputs = number_at(record, 2), number_at(record, 3)
+    same = True
+    for setting in itertools.product((0, 1), repeat=switches):
+        rounds = value("light", lib.crossbar_light(*given(record.raw), *given(cells.raw), *given(setting), *lent(wires)))
+        reads = [wires.raw[number_at(record, 4 + j)] for j in range(outputs)]
+        walks = [value("walk", lib.crossbar_walk(*given(job), *given(setting), ctypes.c_uint32(j))) for j in range(outputs)]
+        print("setting", *setting, "rounds", rounds, "reads", *reads, "walks", *walks)
+        same = same and reads == walks
+    return same
+
+
+def main():
+    if len(sys.argv) not in (2, 3):
+        sys.exit("usage: host.py JOB [LIBRARY]")
+    with open(sys.argv[1], "rb") as file:
+        job = file.read()
+    try:
+        same = show(library(sys.argv[2] if len(sys.argv) == 3 else "libcrossbar.so"), job)
+    except (OSError, ValueError) as error:
+        sys.exit(f"host.py: {error}")
+    sys.exit(0 if same else 1)
+
+
+if __name__ == "__main__":
+    main()
