@@ -18,6 +18,10 @@ maxNodes = 254
 unfoldable pub maxOutputs : ℕ
 maxOutputs = 32
 
+-- "Ids 0 and 1 are the terminals", and the nodes follow
+unfoldable pub maxIds : ℕ
+maxIds = maxNodes + 2
+
 -- "Two programs": input above 65,535 bytes is refused
 unfoldable pub maxInput : ℕ
 maxInput = 65535

@@ -13,6 +13,8 @@ pub const MAX_SWITCHES: usize = 64;
 pub const MAX_NODES: usize = 254;
 
 pub const MAX_OUTPUTS: usize = 32;
+// The ids of the terminals and of the most nodes.
+pub const MAX_IDS: usize = MAX_NODES + 2;
 // Document 01, "Two programs": the most bytes of an input.
 pub const MAX_INPUT: usize = 65535;
 // Bytes that are always enough for a listing and for what a program prints, reckoned from the limits above.

@@ -1,7 +1,12 @@
 pub mod Canonical
+pub mod FaultLaws
 pub mod Lines
 pub mod Owners
+pub mod Running
+pub mod SeenLaws
 pub mod Stored
+pub mod TableLaws
+pub mod TableWalk
 pub mod Tables
 pub mod Valid
 pub mod Walk

@@ -2,8 +2,8 @@
 use Prim.Native.Nat.{ℕ, zero, suc, _+_, _≤_, _<_}
 use mathlib.Core.Path.{_≡_, ap}
 use mathlib.Core.Logic.{⊎-elim}
-use mathlib.Core.Bool.{Bool, true, false}
-use mathlib.Core.List.{List}
+use mathlib.Core.Bool.{Bool, true, false, _||_}
+use mathlib.Core.List.{List, []}
 use native.Mathlib.Omega.{arith}
 use native.Mathlib.Numerals.{add-one}
 use lib.ListN.{length, length-append}
@@ -12,10 +12,11 @@ use borrow.Author.Tests.{lt-ltb, le-ltb}
 use Rattle.common.specs.Limits.{maxRows, maxColumns}
 use Rattle.common.specs.Lists.{bit}
 use Rattle.common.proofs.Lists.{by-test}
-use Rattle.diagram.specs.Diagram.{Diagram}
+use Rattle.diagram.specs.Diagram.{Diagram, entries, entry, idCount}
 use Rattle.diagram.specs.Stored.{stored}
 use Rattle.diagram.specs.Wires.{owners, hasRow, hasColumn, hasWire, rowOwners, columnOwners}
-use Rattle.diagram.specs.Wires.{rowCount, columnCount, namesZero, tooLarge}
+use Rattle.diagram.specs.Table.{tabled}
+use Rattle.diagram.specs.Wires.{rowCount, columnCount, anyZero, namesZero, tooLarge}
 use Rattle.diagram.proofs.Stored.{idCount-stored}
 
 pub owners-more : (has : ℕ → Bool) (i : ℕ) → length (owners has (i + 1)) ≡ length (owners has i) + bit (has i)
@@ -72,3 +73,14 @@ module _ (d : Diagram) where
   pub large-columns : rowCount d ≤ maxRows → tooLarge d ≡ ltb maxColumns (columnCount d)
   unfolding tooLarge
   large-columns fit = rw (le-ltb maxRows (rowCount d) fit)
+
+-- the rows and the columns of a table's diagram don't depend on its outputs; ground 11 by how many there are
+module _ (t : List ℕ) (n : ℕ) (outs : List ℕ) where
+  pub large-tabled :
+      (height width last : ℕ)
+      → height ≡ length (rowOwners (tabled t n []))
+      → width ≡ columnCount (tabled t n [])
+      → last ≡ bit (anyZero outs)
+      → (ltb maxRows (height + last) || ltb maxColumns width) ≡ tooLarge (tabled t n outs)
+  unfolding tooLarge rowCount rowOwners columnCount columnOwners hasRow hasColumn namesZero tabled idCount entry entries
+  large-tabled height width last h w z = rw (h, w, z)

@@ -24,6 +24,12 @@ any-of-more f [] a none e = rw e
 any-of-more f (b ∷ s) a none e =
     let both = or-none (f b) (any-of f s) none in rw (both .0, any-of-more f s a (both .1) e)
 
+-- one that holds at no index
+pub any-of-by : {A : Type 0} (f : A → Bool) (s : List A) (d : A) → ((k : ℕ) → k < length s → f (getD s k d) ≡ false) → any-of f s ≡ false
+unfolding any-of
+any-of-by f [] d none = refl
+any-of-by f (a ∷ s) d none = rw (none 0 (omega arith), any-of-by f s d (λ k h. none (suc k) (omega arith)))
+
 pub any-tab-more :
     {A : Type 0} (f : A → Bool) (n : ℕ) (g : ℕ → A)
     → any-of f (tab n g) ≡ false

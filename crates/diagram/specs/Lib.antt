@@ -4,3 +4,5 @@ pub mod Wires
 pub mod Faults
 pub mod Stored
 pub mod Facts
+pub mod Table
+pub mod Seen

@@ -92,7 +92,7 @@ fn has_same(
 }
 
 // Ground 9: whether two labels are both `h` or both `v`.
-fn alike(t: u16, u: u16) -> bool
+pub fn alike(t: u16, u: u16) -> bool
     ensures { λ r. ⌜ r ≡ alike t u ⌝ }
 {
     if t != u {

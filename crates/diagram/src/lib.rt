@@ -4,6 +4,13 @@ pub mod entry; // entry.rt: the entry of an id
 pub mod grounds; // grounds.rt: grounds 2 to 9 on one line each
 pub mod counts; // counts.rt: how many rows and columns there are
 pub mod walking; // walking.rt: the diagram walk
+pub mod table; // table.rt: the flat table that holds a diagram
+pub mod seen; // seen.rt: marks for ground 8
+pub mod faults; // faults.rt: grounds 3 to 9 on a node's line and an output's
+pub mod wires; // wires.rt: the numbers of the wires, and how many there are
+pub mod walks; // walks.rt: the diagram walk
+
+use common::MAX_IDS;
 
 // Document 01, "Job text": an entry of the node table, X, L, H and T (1 for `h`, 2 for `v`, 3 for `b`).
 pub struct Node {
@@ -11,4 +18,21 @@ pub struct Node {
     pub l: u16,
     pub h: u16,
     pub t: u16,
+}
+
+// The values of a line `(node I X (L H) T)`.
+pub struct NodeValues {
+    pub id: u32,
+    pub x: u32,
+    pub l: u32,
+    pub h: u32,
+    pub t: u16,
+}
+
+// The number of each id's row and column, by id, and how many rows and columns ids have.
+pub struct WireTable {
+    pub rows: [u16; MAX_IDS],
+    pub columns: [u16; MAX_IDS],
+    pub height: u16,
+    pub width: u16,
 }

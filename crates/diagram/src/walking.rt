@@ -15,7 +15,7 @@ ghost use Rattle.diagram.specs.Stored.{stored};
 ghost use Rattle.diagram.specs.Walk.{step, walkEnd, walkValue, Falls};
 
 // Whether a switch is 1. A switch past the setting's end reads as 0.
-fn is_one(setting: &[u8], x: usize) -> bool
+pub fn is_one(setting: &[u8], x: usize) -> bool
     ensures { λ r. ⌜ r ≡ eqb (getD (now (setting .entry)) x 0) 1 ⌝ }
 {
     if x < setting.len() {

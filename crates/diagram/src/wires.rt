@@ -1,0 +1,75 @@
+// Document 01, "Placement" and ground 11: the numbers of the wires by id, and how many rows and columns there are.
+use super::WireTable;
+use super::counts::names_zero;
+use super::table::TABLE;
+use super::table::entry_at;
+use common::LABEL_B;
+use common::LABEL_H;
+use common::LABEL_V;
+use common::MAX_COLUMNS;
+use common::MAX_IDS;
+use common::MAX_OUTPUTS;
+use common::MAX_ROWS;
+ghost use mathlib.Core.Path.{_≡_};
+ghost use mathlib.Core.List.{[]};
+ghost use Prim.Native.Nat.{_≤_};
+ghost use lib.ListN.{length, take};
+ghost use Rattle.common.specs.Labels.{labelH, labelV};
+ghost use Rattle.common.specs.Limits.{maxNodes, maxOutputs};
+ghost use Rattle.diagram.specs.Table.{tabled, Terminals, WireNumbers};
+ghost use Rattle.diagram.specs.Wires.{labelHas, tooLarge};
+
+// Labels `h` and `b` have a row.
+pub fn has_row(label: u16) -> bool
+    ensures { λ r. ⌜ r ≡ labelHas labelH label ⌝ }
+{
+    label == LABEL_H || label == LABEL_B
+}
+
+// Labels `v` and `b` have a column.
+pub fn has_column(label: u16) -> bool
+    ensures { λ r. ⌜ r ≡ labelHas labelV label ⌝ }
+{
+    label == LABEL_V || label == LABEL_B
+}
+
+// Each wire has as its number how many ids before its own have one.
+pub fn number_wires(table: &[u16; TABLE], n: usize) -> WireTable
+    requires { ⌜ n ≤ maxNodes ⌝ }
+    requires { ⌜ Terminals (now table) ⌝ }
+    ensures { λ r. ⌜ WireNumbers (tabled (now (table .entry)) n []) r ⌝ }
+{
+    let mut rows = [0u16; MAX_IDS];
+    let mut columns = [0u16; MAX_IDS];
+    let mut height: u16 = 0;
+    let mut width: u16 = 0;
+    let mut id = 0;
+    while id < n + 2 {
+        rows[id] = height;
+        columns[id] = width;
+        let entry = entry_at(table, id);
+        height += has_row(entry.t) as u16;
+        width += has_column(entry.t) as u16;
+        id += 1;
+    }
+    WireTable {
+        rows,
+        columns,
+        height,
+        width,
+    }
+}
+
+// Ground 11, of n nodes and k outputs: "R or C exceeds 128".
+pub fn too_large(table: &[u16; TABLE], outs: &[u16; MAX_OUTPUTS], n: usize, k: usize) -> bool
+    requires { ⌜ (n ≤ maxNodes) × (k ≤ maxOutputs) × (k ≤ length (now outs)) ⌝ }
+    requires { ⌜ Terminals (now table) ⌝ }
+    ensures { λ r. ⌜ r ≡ tooLarge (tabled (now (table .entry)) n (take k (now (outs .entry)))) ⌝ }
+{
+    let wires = number_wires(table, n);
+    let rows = wires.height as usize + names_zero(outs, k) as usize;
+    if MAX_ROWS < rows {
+        return true;
+    }
+    MAX_COLUMNS < wires.width as usize
+}
