@@ -1,21 +1,19 @@
 // Document 01, "Two programs": reads a job from standard input and prints the listing, or `(refused n line)`. The buffer for the input
 // has one byte more than an input may have, so that a longer input is refused as such.
 use common::MAX_TEXT;
-use libc::STDIN_FILENO;
-use libc::STDOUT_FILENO;
 ghost use mathlib.Core.Path.{_≡_};
 ghost use Rattle.programs.specs.Programs.{mapProgram};
 
-// What goes to standard output is the text for the input, whole.
+// What is handed to standard output is the text for the input, whole.
 fn write(input: &[u8], text: &[u8])
     requires { ⌜ now text ≡ mapProgram (now input) ⌝ }
 {
-    io::write_all(STDOUT_FILENO, text);
+    streams::write_answer(text, b"map_main: could not write the answer\n");
 }
 
 fn main() {
     let mut input = io::large_buffer();
-    let n = io::read_full(STDIN_FILENO, &mut input);
+    let n = streams::read_input(&mut input, b"map_main: could not read the input\n");
     let mut out = [0u8; MAX_TEXT];
     let count = programs::map_text(&input[..n], &mut out);
     write(&input[..n], &out[..count]);

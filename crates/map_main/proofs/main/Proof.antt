@@ -1,4 +1,4 @@
--- `map_main::main` meets its contract: the text handed over lies in the buffer, and it is the text for the input. Assumes nothing.
+-- `map_main::main` meets its contract: the text handed over lies in the buffer, and it is the text for the input.
 use mathlib.Core.Path.{sym}
 use lib.Seq.{length-take-le}
 use Rattle.common.specs.Limits.{maxRows, maxColumns, maxText}
@@ -11,11 +11,14 @@ use Rattle.map_main.proofs.main.Tie as tie
 large-buffer-requires : tie.Need-large-buffer-requires
 large-buffer-requires c κs = search needs
 
-slice-aggregate-read-full : tie.Need-slice-aggregate-read-full
-slice-aggregate-read-full c = search needs
+slice-aggregate-read-input : tie.Need-slice-aggregate-read-input
+slice-aggregate-read-input c = search needs
 
-read-full-requires : tie.Need-read-full-requires
-read-full-requires c κs = search needs
+slice-aggregate-read-input-2 : tie.Need-slice-aggregate-read-input-2
+slice-aggregate-read-input-2 c = search needs
+
+read-input-requires : tie.Need-read-input-requires
+read-input-requires c κs = search needs
 
 array-share-prefix-input : tie.Need-array-share-prefix-input
 array-share-prefix-input c = search needs
@@ -56,8 +59,9 @@ main-spec =
     tie.close
     (tie.spec
     large-buffer-requires
-    slice-aggregate-read-full
-    read-full-requires
+    slice-aggregate-read-input
+    slice-aggregate-read-input-2
+    read-input-requires
     array-share-prefix-input
     slice-aggregate-map-text
     slice-aggregate-map-text-2
