@@ -33,6 +33,20 @@ static void show_line(const struct text *text, uint64_t line)
     fprintf(stderr, i == text->length ? "   (no line feed at its end)\n" : "\n");
 }
 
+static int begins_with(const struct text *text, const char *words)
+{
+    return text->length >= strlen(words) && memcmp(text->bytes, words, strlen(words)) == 0;
+}
+
+/* Where the first line is refused as a whole, perhaps the file is of another kind than the subcommand takes. */
+static void say_kind(const struct text *text)
+{
+    if (begins_with(text, "(crossbar "))
+        fprintf(stderr, "This file is a listing; a job is due here.\n");
+    if (begins_with(text, "(set"))
+        fprintf(stderr, "This file begins with a set line; here a setting is given by --set, and the file is the listing alone.\n");
+}
+
 int refused(const struct request *request, const struct text *text, uint64_t answer)
 {
     unsigned long line = (unsigned long)CROSSBAR_LINE(answer);
@@ -44,6 +58,8 @@ int refused(const struct request *request, const struct text *text, uint64_t ans
     } else {
         fprintf(stderr, "\n");
     }
+    if (CROSSBAR_NUMBER(answer) == CROSSBAR_NOT_THE_FORM && line == 1)
+        say_kind(text);
     explain_number(stderr, CROSSBAR_NUMBER(answer));
     return REFUSED;
 }
@@ -158,7 +174,7 @@ int take_crossbar(const struct request *request, struct text *text, struct cross
 
     if (status != DONE)
         return status;
-    if (text->length >= 4 && memcmp(text->bytes, "(job", 4) == 0) {
+    if (begins_with(text, "(job")) {
         status = map_text(request, text, crossbar);
     } else {
         answer = crossbar_load(text->bytes, text->length, crossbar->record, sizeof crossbar->record, crossbar->cells,

@@ -45,11 +45,11 @@ static void print_heading(const struct work *work)
     printf("Each output: what it reads / the walk's value.\n%-*s rounds", work->setting.length < 7 ? 7 : (int)work->setting.length,
            "setting");
     for (output = 0; output < crossbar_outputs(work->crossbar.record); output++)
-        printf("  out %-2u", output);
+        printf("  out %2u", output);
     printf("\n");
 }
 
-/* One line: the setting, the rounds, and for each output both values, `!` after them where they differ. */
+/* One line: the setting, the rounds, and for each output both values, `!` before them where they differ. */
 static int print_line(struct work *work)
 {
     const uint8_t *record = work->crossbar.record;
@@ -70,7 +70,7 @@ static int print_line(struct work *work)
             return refused(work->request, work->text, walked);
         reads = crossbar_reads(record, wires, i);
         work->different += reads != CROSSBAR_VALUE(walked);
-        printf("  %u/%u%s  ", reads, (unsigned)CROSSBAR_VALUE(walked), reads == CROSSBAR_VALUE(walked) ? " " : "!");
+        printf("  %s%u/%u", reads == CROSSBAR_VALUE(walked) ? "   " : "  !", reads, (unsigned)CROSSBAR_VALUE(walked));
     }
     printf("\n");
     return DONE;
