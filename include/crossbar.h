@@ -2,9 +2,10 @@
  * The COMPACT crossbar mapper and the test of its crossbars: map, walk, light, print and load on byte slices.
  *
  * A slice is a pointer and then its length in bytes. A pointer may be NULL only where its length is 0. A call reads and writes
- * nothing outside its slices; an output slice must not overlap any other slice of the same call. No call allocates, keeps a
- * pointer, or has state of its own, so calls in several threads need no lock. CROSSBAR_STACK bytes of stack are enough for every
- * call at the largest sizes; that is measured by a test and not proved.
+ * nothing outside its slices; an output slice must not overlap any other slice of the same call. While a call runs, nothing else
+ * may write to its slices or read its output slices. No call allocates, keeps a pointer, or has state of its own, so calls in
+ * several threads on slices of their own need no lock. CROSSBAR_STACK bytes of stack are enough for every call at the largest
+ * sizes; that is measured by a test and not proved.
  *
  * Every call answers one number. Its highest byte is the refusal's number, 0 where nothing is refused; the rest is then the value
  * that the call's comment names, and after a refusal the line, 0 where the ground has none. After a refusal every output slice
