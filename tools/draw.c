@@ -236,7 +236,7 @@ static unsigned width_of(const struct drawing *drawing)
 static void draw(const struct drawing *drawing)
 {
     unsigned width = width_of(drawing), legend = bottom_of(drawing) + 36;
-    unsigned height = legend + LEGEND_LINE * (drawing->known ? 5 : 3);
+    unsigned height = legend + LEGEND_LINE * (drawing->known ? 5u : 3u);
 
     printf("<svg xmlns=\"http://www.w3.org/2000/svg\" width=\"%u\" height=\"%u\" viewBox=\"0 0 %u %u\" font-family=\"sans-serif\" "
            "font-size=\"14\">\n<title>",

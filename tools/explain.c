@@ -14,9 +14,9 @@ struct ground {
 /* In the order of the numbers, from 1 on. */
 static const struct ground grounds[] = {
     {"The line is missing or not the form due.", "that line", "map, walk, load",
-     "Write the line as docs/FORMATS.md and crossbar(5) have it: one blank between items and none elsewhere, figures without a leading zero, small "
-     "letters, a line feed at the end of every line. Look for a tab, for a carriage return before the line feed and for a missing last "
-     "line feed, and count that there are N node lines and K output lines."},
+     "Write the line as docs/FORMATS.md and crossbar(5) have it: one blank between items and none elsewhere, figures without a leading "
+     "zero, small letters, a line feed at the end of every line. Look for a tab, for a carriage return before the line feed and for a "
+     "missing last line feed, and count that there are N node lines and K output lines."},
     {"A figure of the first line is outside its range.", "that line", "map, walk, load",
      "Bring the figure into its range: V 0 to 64, N 0 to 254, K 1 to 32; in a listing also R 1 to 128 and C 0 to 128. Divide a larger "
      "job into several jobs, with some of the outputs in each."},
