@@ -28,7 +28,7 @@ pub record Holds (nodes : List Node) (xs ls hs ts : List ℕ) : Type 0 where
   pub labels : ts ≡ map (λ n. n .t) nodes
 
 -- an entry of a list with more of its default after it
-getD-more : {A : Type 0} (l : List A) (m k : ℕ) (d : A) → getD (l ++ replicate m d) k d ≡ getD l k d
+pub getD-more : {A : Type 0} (l : List A) (m k : ℕ) (d : A) → getD (l ++ replicate m d) k d ≡ getD l k d
 getD-more [] zero k d = refl
 getD-more [] (suc m) zero d = refl
 getD-more [] (suc m) (suc k) d = getD-more [] m k d

@@ -1,10 +1,13 @@
 pub mod Accepted
 pub mod Again
+pub mod Cleared
 pub mod Due
 pub mod LineLaws
 pub mod Refusals
 pub mod Entries
 pub mod Filled
+pub mod Lends
+pub mod Spread
 pub mod Turns
 pub mod Walks
 pub mod Whole

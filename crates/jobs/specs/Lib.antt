@@ -3,3 +3,4 @@ pub mod Job
 pub mod Answer
 pub mod LineSteps
 pub mod Steps
+pub mod Spread
