@@ -82,6 +82,20 @@ static int functions_agree(void)
     return crossbar_number_at(record, 0) == 513;
 }
 
+/* A record slice may be longer than the record with zeros past it; a shorter one and another byte past it are 12. */
+static int longer_record(void)
+{
+    uint8_t record[CROSSBAR_RECORD_BYTES + 1] = {0}, cells[6], text[200];
+
+    write_adder(record, cells);
+    if (CROSSBAR_NUMBER(print(record, sizeof record, cells, sizeof cells, text, sizeof text)) != 0)
+        return 0;
+    if (!is(print(record, CROSSBAR_RECORD_BYTES - 1, cells, sizeof cells, text, sizeof text), CROSSBAR_BAD_CROSSBAR, 0))
+        return 0;
+    record[CROSSBAR_RECORD_BYTES] = 1;
+    return is(print(record, sizeof record, cells, sizeof cells, text, sizeof text), CROSSBAR_BAD_CROSSBAR, 0);
+}
+
 int main(void)
 {
     size_t i;
@@ -104,5 +118,7 @@ int main(void)
         return 7;
     if (!functions_agree())
         return 8;
+    if (!longer_record())
+        return 9;
     return 0;
 }
