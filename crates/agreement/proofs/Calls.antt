@@ -1,6 +1,6 @@
 -- Demand 3 of the calls: from their promises and `demand-3`.
 use Prim.Native.Nat.{ℕ, _+_, _≤_, _<_}
-use mathlib.Core.Path.{_≡_, refl, sym, ap, subst, _∙_}
+use mathlib.Core.Path.{_≡_, sym, ap, _∙_}
 use mathlib.Core.Logic.{_↔_, Iff·trans, Iff·symm}
 use mathlib.Core.Bool.{true}
 use mathlib.Core.List.{List, []}
@@ -9,7 +9,7 @@ use lib.Dec.{ltb}
 use borrow.Author.Tests.{ltb-false}
 use Rattle.common.specs.Limits.{maxOutputs}
 use Rattle.common.specs.Lists.{padded}
-use Rattle.common.specs.Outcome.{Outcome, done, bufferOf}
+use Rattle.common.specs.Outcome.{done, bufferOf}
 use Rattle.common.proofs.Lists.{getD-padded-any, length-padded}
 use Rattle.common.proofs.Outcome.{then-done, unless-done, not-met}
 use Rattle.cells.specs.declared.Crossbar.{Crossbar}
@@ -21,17 +21,16 @@ use Rattle.jobs.proofs.Accepted.{accepted-job}
 use Rattle.placement.specs.Placement as placement
 use Rattle.placement.specs.Map.{mapJob}
 use Rattle.placement.proofs.Sound.{mapped-sound, cells-count, outs-count}
-use Rattle.conduction.specs.Chain.{Chain, row}
-use Rattle.conduction.specs.Light.{Lit, light, joined}
+use Rattle.conduction.specs.Light.{Lit, light}
 use Rattle.conduction.proofs.Light.{sound-row}
 use Rattle.crossbar.specs.Bytes.{recordLength, recordBytes, recordFrom}
-use Rattle.crossbar.specs.Host.{packed, forRecord, hostMap, hostLight, MapCall, LightCall, WalkCall}
+use Rattle.crossbar.specs.Host.{forRecord, hostMap, hostLight, MapCall, LightCall, WalkCall}
 use Rattle.crossbar.specs.Parts.{numberPart, lowPart}
 use Rattle.crossbar.proofs.Parts.{calls-read}
 use Rattle.crossbar.proofs.Records.{record-written}
 use Rattle.crossbar.proofs.ReadBack.{for-record-long, light-written}
-use Rattle.agreement.specs.Demand3.{Demand3, Reads, WalksToOne, Tells, standsOn}
-use Rattle.agreement.specs.Calls.{inBuffers, BuffersAgree, CallsAgree}
+use Rattle.agreement.specs.Demand3.{Demand3, Reads, Tells, standsOn}
+use Rattle.agreement.specs.Calls.{inBuffers, BuffersAgree, CallsAgree, Demand3OfCalls}
 use Rattle.agreement.proofs.Demand3.{demand-3}
 use Rattle.agreement.proofs.Slices.{chain-same, joined-padded}
 
@@ -188,14 +187,18 @@ module _ (text : List ℕ) (d : Diagram) (taken : accepted text ≡ done d) wher
               rw kept (calls-read .of-walk text setting j .none-refused .1 (claim .walks setting j s h));
         }
 
--- a crossbar of map's outcome: that of the job, and the buffers hold it
-record MappedBy (text : List ℕ) (n m : ℕ) (w : Whole) (d : Diagram) : Type 0 where
-  taken : accepted text ≡ done d
-  whole-is : w ≡ record { head = placement.crossbar d; codes = placement.cells d }
-  long : recordLength ≤ n
-  fits : size (placement.crossbar d) ≤ m
+-- the crossbar of a diagram
+abbrev placed : Diagram → Whole
+placed d = record { head = placement.crossbar d; codes = placement.cells d }
 
-mapped-by : (text : List ℕ) (n m : ℕ) (w : Whole) → hostMap text n m ≡ done w → (d : Diagram) × MappedBy text n m w d
+-- a crossbar of map's outcome: that of the job, and the buffers hold it
+pub record MappedBy (text : List ℕ) (n m : ℕ) (w : Whole) (d : Diagram) : Type 0 where
+  pub taken : accepted text ≡ done d
+  pub whole-is : w ≡ placed d
+  pub long : recordLength ≤ n
+  pub fits : size (placement.crossbar d) ≤ m
+
+pub mapped-by : (text : List ℕ) (n m : ℕ) (w : Whole) → hostMap text n m ≡ done w → (d : Diagram) × MappedBy text n m w d
 unfolding hostMap forRecord mapJob
 mapped-by text n m w h =
     let made = then-done (mapJob text m) _ w h in
@@ -232,16 +235,16 @@ module _ (text head₀ cells₀ : List ℕ) (answer : ℕ) (head cells : List �
       let also = by .taken in
       let same : job .0 ≡ d = cc in
       let claim = demand-3 text d taken in
-      let whole-is : found .0 ≡ claim .whole = by .whole-is ∙ ap (λ (e : Diagram). record { head = placement.crossbar e; codes = placement.cells e }) same ∙ sym (claim .placed) in
+      let whole-is : found .0 ≡ claim .whole = by .whole-is ∙ ap placed same ∙ sym (claim .placed) in
       let outcome : hostMap text n m ≡ done (claim .whole) = found .1 ∙ ap done whole-is in
       let fits : size (claim .whole .head) ≤ m = rw (claim .placed, ← same) (by .fits) in
       let head-is : head ≡ padded n (recordBytes (claim .whole .head)) = kept .to-record .buffer ∙ ap (bufferOf n (λ (w : Whole). recordBytes (w .head))) outcome in
       let cells-are : cells ≡ padded m (claim .whole .codes) = kept .to-cells .buffer ∙ ap (bufferOf m (λ (w : Whole). w .codes)) outcome in
       rw (head-is, cells-are) (buffers-agree text d taken n m (by .long) fits)
 
-  pub calls-agree : CallsAgree text head₀ cells₀ answer head cells
+  agree-all : CallsAgree text head₀ cells₀ answer head cells
   unfolding hostMap
-  calls-agree =
+  agree-all =
       record {
         maps =
             λ d taken long fits.
@@ -255,3 +258,6 @@ module _ (text head₀ cells₀ : List ℕ) (answer : ℕ) (head cells : List �
             (job .0, job .1 .taken);
         agree = agree;
       }
+
+pub calls-agree : Demand3OfCalls
+calls-agree = agree-all

@@ -9,12 +9,12 @@ use lib.ListN.{length, getD, length-map}
 use lib.Dec.{eqb, ltb}
 use borrow.Author.Tests.{ltb-true, lt-ltb, le-ltb, eqb-true, eq-eqb, not-false}
 use Rattle.common.specs.Lists.{bit, padded}
-use Rattle.common.specs.Outcome.{Outcome, done, _then_, _when_, lowest, unless}
-use Rattle.common.proofs.Lists.{and-left, and-right, and-both, bit-one, getD-padded, getD-map-at, by-test, true-or-false}
-use Rattle.common.proofs.Outcome.{then-done, unless-done, not-met}
+use Rattle.common.specs.Outcome.{done, _then_, _when_, lowest, unless}
+use Rattle.common.proofs.Lists.{and-left, and-right, and-both, bit-one, getD-padded, getD-map-at}
+use Rattle.common.proofs.Outcome.{unless-done, not-met}
 use Rattle.cells.specs.Record.{Whole, size}
 use Rattle.cells.specs.Setting.{isSetting}
-use Rattle.diagram.specs.Diagram.{Diagram, idCount}
+use Rattle.diagram.specs.Diagram.{Diagram}
 use Rattle.diagram.specs.Walk.{walkEnd, walkValue}
 use Rattle.diagram.specs.Wires.{rowCount, columnCount}
 use Rattle.diagram.specs.Facts.{Facts, Sizes}
@@ -24,9 +24,9 @@ use Rattle.jobs.specs.Job.{accepted, walk}
 use Rattle.jobs.proofs.Accepted.{accepted-job}
 use Rattle.placement.specs.Placement.{cells, crossbar, outRow}
 use Rattle.placement.specs.Map.{mapJob}
-use Rattle.placement.proofs.Readings.{Reach, reads, outRow-below, outRow-injective, out-on-row}
+use Rattle.placement.proofs.Readings.{reads, outRow-below, out-on-row}
 use Rattle.placement.proofs.Sound.{mapped-sound, cells-count}
-use Rattle.conduction.specs.Chain.{Chain, Wire, row, place, Within}
+use Rattle.conduction.specs.Chain.{row, place, Within}
 use Rattle.conduction.specs.Light.{Lit, light, joined, litBy}
 use Rattle.conduction.proofs.Light.{light-answers, light-accepts, sound-row}
 use Rattle.agreement.proofs.Slices.{chain-same, joined-padded, sound-padded}

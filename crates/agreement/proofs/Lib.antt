@@ -2,3 +2,4 @@ pub mod Calls
 pub mod Demand3
 pub mod Sheets
 pub mod Slices
+pub mod RoundTrips

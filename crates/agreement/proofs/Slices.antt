@@ -1,18 +1,18 @@
 -- A crossbar in a slice longer than its cells: zeros past the cells change neither ground 12 nor what conducts, so no chain.
 use Prim.Native.Nat.{ℕ, _+_, _*_, _-_, _≤_, _<_}
 use mathlib.Core.Path.{_≡_, refl, sym, ap, _∙_}
-use mathlib.Core.Bool.{Bool, true, _&&_}
-use mathlib.Core.List.{List, [], _++_, append-nil}
+use mathlib.Core.Bool.{Bool, true}
+use mathlib.Core.List.{List, [], _++_}
 use native.Mathlib.Omega.{arith}
 use native.Mathlib.Nat.{mul-le-mul-right}
 use lib.ListN.{length, take, drop, length-append, length-replicate}
-use lib.Seq.{take-append-seam, take-at, drop-at, take-length, drop-length}
-use lib.Dec.{eqb, leb, ltb}
+use lib.Seq.{take-at, drop-at, take-length, drop-length}
+use lib.Dec.{eqb, leb}
 use borrow.Author.Tests.{le-leb}
 use Rattle.common.specs.Lists.{zeros, padded, all-of}
-use Rattle.common.proofs.Lists.{getD-padded, all-of-zeros, length-padded}
+use Rattle.common.proofs.Lists.{getD-padded, all-of-zeros}
 use Rattle.cells.specs.declared.Crossbar.{Crossbar}
-use Rattle.cells.specs.Record.{size, sound, inRange}
+use Rattle.cells.specs.Record.{size, sound}
 use Rattle.cells.specs.Conducts.{joins}
 use Rattle.conduction.specs.Chain.{Wire, row, column, Chain, here, across, back, Within}
 use Rattle.conduction.specs.Light.{joined}

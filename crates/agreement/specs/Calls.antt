@@ -1,9 +1,7 @@
 -- Demand 3 of the calls that a C program links. Document 01, "What an output reads", as in Demand3.antt, of what `crossbar_map`,
 -- `crossbar_light` and `crossbar_walk` answer and leave in the buffers lent to them: MapCall, LightCall and WalkCall are their contracts
 -- (crates/crossbar/specs/Host.antt), and numberPart and lowPart are CROSSBAR_NUMBER and CROSSBAR_VALUE of include/crossbar.h.
--- The proof is `calls-agree` in proofs/Calls.antt:
---   (text head₀ cells₀ : List ℕ) (answer : ℕ) (head cells : List ℕ)
---   → MapCall text head₀ cells₀ answer head cells → CallsAgree text head₀ cells₀ answer head cells
+-- The statement is Demand3OfCalls, and its proof `calls-agree` in proofs/Calls.antt.
 use Prim.Native.Nat.{ℕ, _+_, _≤_, _<_}
 use mathlib.Core.Path.{_≡_}
 use mathlib.Core.Logic.{_↔_}
@@ -87,3 +85,10 @@ pub record CallsAgree (text head₀ cells₀ : List ℕ) (answer : ℕ) (head ce
   pub job : numberPart answer ≡ 0 → (d : Diagram) × (accepted text ≡ done d)
   -- and then what it left, light and walk agree with the job
   pub agree : (d : Diagram) → accepted text ≡ done d → numberPart answer ≡ 0 → BuffersAgree text d head cells
+
+-- for every text and every two buffers
+abbrev pub Demand3OfCalls : Type 0
+Demand3OfCalls =
+    (text head₀ cells₀ : List ℕ) (answer : ℕ) (head cells : List ℕ)
+    → MapCall text head₀ cells₀ answer head cells
+    → CallsAgree text head₀ cells₀ answer head cells

@@ -1,17 +1,20 @@
 -- Numbers as pairs of bytes: one number more in a buffer, and a record's bytes hold that record.
 use Prim.Native.Nat.{ℕ, zero, suc, _+_, _-_, _*_, _/_, _%_, _≤_, _<_}
 use mathlib.Core.Path.{_≡_, refl, sym, ap, _∙_}
+use mathlib.Core.Bool.{true}
 use mathlib.Core.List.{List, [], _∷_, _++_, append-nil, append-assoc}
 use native.Mathlib.Omega.{arith}
 use native.Mathlib.Numerals.{add-one}
+use lib.Dec.{ltb}
 use lib.ListN.{length, getD, take, set, length-append}
 use lib.Seq.{ext-getD, take-suc, length-take-le}
+use borrow.Author.Tests.{ltb-true}
 use Rattle.common.specs.Limits.{maxOutputs}
-use Rattle.common.specs.Lists.{zeros, padded, tab}
-use Rattle.common.proofs.Lists.{length-tab, getD-tab}
+use Rattle.common.specs.Lists.{zeros, padded, tab, all-of}
+use Rattle.common.proofs.Lists.{length-tab, getD-tab, all-of-at}
 use Rattle.cells.specs.declared.Crossbar.{Crossbar}
 use Rattle.placement.proofs.Heads.{pad-more}
-use Rattle.crossbar.specs.Bytes.{numbersOf, pairs, recordBytes, withNumber, withNumbers, numberAt, recordFrom}
+use Rattle.crossbar.specs.Bytes.{recordLength, numbersOf, pairs, recordBytes, withNumber, withNumbers, numberAt, recordFrom}
 
 pub length-pairs : (ns : List ℕ) → length (pairs ns) ≡ 2 * length ns
 unfolding pairs
@@ -98,6 +101,29 @@ record-back x e =
     let out-row : (i : ℕ) → numberAt (pairs ns) (4 + i) ≡ getD (x .outs) i 0 =
     λ i. let four : 4 + i ≡ suc (suc (suc (suc i))) = omega arith in number-in ns (4 + i) ∙ rw four in
     rw (number-in ns 0, number-in ns 1, number-in ns 2, number-in ns 3, tab-is (λ i. numberAt (pairs ns) (4 + i)) (x .outs) maxOutputs e out-row)
+
+-- the numbers of bytes, as bytes again
+pub pairs-tab :
+    (s : List ℕ) (n : ℕ) → all-of (λ b. ltb b 256) s ≡ true → 2 * n ≤ length s → pairs (tab n (numberAt s)) ≡ take (2 * n) s
+unfolding tab pairs numberAt
+pairs-tab s zero small h = refl
+pairs-tab s (suc n) small h =
+    let a = getD s (2 * n) 0 in
+    let b = getD s (2 * n + 1) 0 in
+    let a-small = ltb-true a 256 (all-of-at (λ k. ltb k 256) s (2 * n) small (omega arith)) in
+    let low : (a + 256 * b) % 256 ≡ a = omega arith in
+    let high : (a + 256 * b) / 256 ≡ b = omega arith in
+    let one : take (suc (2 * n)) s ≡ take (2 * n) s ++ (a ∷ []) = take-suc s (2 * n) 0 (omega arith) in
+    let even : 2 * suc n ≡ suc (2 * n + 1) = omega arith in
+    let two : take (suc (2 * n + 1)) s ≡ take (2 * n + 1) s ++ (b ∷ []) = take-suc s (2 * n + 1) 0 (omega arith) in
+    pairs-more (tab n (numberAt s)) (a + 256 * b)
+    ∙ rw (low, high, pairs-tab s n small (omega arith), even, two, add-one (2 * n), one)
+
+-- a record's bytes from what was read of bytes
+pub record-again :
+    (s : List ℕ) → all-of (λ b. ltb b 256) s ≡ true → recordLength ≤ length s → recordBytes (recordFrom s) ≡ take recordLength s
+unfolding recordLength recordFrom recordBytes numbersOf maxOutputs tab
+record-again s small h = pairs-tab s 36 small h
 
 -- a buffer of zeros holds no numbers
 pub no-numbers : (m : ℕ) → zeros m ≡ padded m (pairs [])

@@ -11,7 +11,7 @@ use Rattle.cells.specs.declared.Crossbar.{Crossbar}
 use Rattle.cells.specs.Record.{Whole}
 use Rattle.conduction.specs.Light.{light}
 use Rattle.listings.specs.Listing.{print}
-use Rattle.crossbar.specs.Bytes.{recordLength, recordBytes, recordFrom}
+use Rattle.crossbar.specs.Bytes.{recordLength, recordBytes}
 use Rattle.crossbar.specs.Host.{forRecord, hostLight, hostPrint}
 use Rattle.crossbar.proofs.Records.{one-held, holds-written, record-written}
 

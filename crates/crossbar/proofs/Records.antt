@@ -1,7 +1,7 @@
 -- A slice that holds a record: when it does, that a record's bytes with zeros past them do, and that they are read as that record.
 use Prim.Native.Nat.{ℕ, _-_, _≤_, _<_}
 use mathlib.Core.Path.{_≡_, refl, sym, _∙_}
-use mathlib.Core.Bool.{Bool, true, false, _&&_}
+use mathlib.Core.Bool.{Bool, true, false}
 use mathlib.Core.List.{List, _∷_}
 use native.Mathlib.Omega.{arith}
 use lib.ListN.{length, drop}
@@ -11,7 +11,7 @@ use borrow.Author.Tests.{leb-true, le-leb, lt-leb}
 use Rattle.common.specs.Limits.{maxOutputs}
 use Rattle.common.specs.Lists.{all-of, padded}
 use Rattle.common.specs.Outcome.{Outcome, refused, lowest, unless}
-use Rattle.common.proofs.Lists.{and-left, and-both, all-of-zeros, length-padded, getD-padded-any}
+use Rattle.common.proofs.Lists.{and-left, all-of-zeros, length-padded, getD-padded-any}
 use Rattle.cells.specs.declared.Crossbar.{Crossbar}
 use Rattle.crossbar.specs.Bytes.{recordLength, numbersOf, recordBytes, holdsRecord, numberAt, recordFrom}
 use Rattle.crossbar.specs.Host.{ofRecord}
