@@ -119,12 +119,12 @@ read-one v m k n ls t h =
     )
 
 -- the sizes of a text's diagram, and that it is valid
-record Read (d : Diagram) : Type 0 where
-  valid : Valid d
-  switches-most : d .switches ≤ maxSwitches
-  nodes-most : length (d .nodes) ≤ maxNodes
-  outs-least : 1 ≤ length (d .outs)
-  outs-most : length (d .outs) ≤ maxOutputs
+pub record Read (d : Diagram) : Type 0 where
+  pub valid : Valid d
+  pub switches-most : d .switches ≤ maxSwitches
+  pub nodes-most : length (d .nodes) ≤ maxNodes
+  pub outs-least : 1 ≤ length (d .outs)
+  pub outs-most : length (d .outs) ≤ maxOutputs
 
 -- ground 2 taken apart
 pub head-ranges :
@@ -144,7 +144,7 @@ head-ranges v n k h =
       leb-true k maxOutputs (and-right (a && b && c) e all),
     )
 
-read-head : (n : ℕ) (ls : Lines) (t : ReadText) → readHead n ls ≡ done t → Read (t .diagram)
+pub read-head : (n : ℕ) (ls : Lines) (t : ReadText) → readHead n ls ≡ done t → Read (t .diagram)
 unfolding readHead bare
 read-head n ls t h =
     let taken = then-done (due jobForm n ls) _ t h in

@@ -11,3 +11,6 @@ pub mod Spread
 pub mod Turns
 pub mod Walks
 pub mod Whole
+pub mod Text
+pub mod TextTold
+pub mod TextWritten
