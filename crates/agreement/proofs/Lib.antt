@@ -1,3 +1,4 @@
+pub mod Acceptance
 pub mod Calls
 pub mod Demand3
 pub mod Sheets

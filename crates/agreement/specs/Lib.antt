@@ -1,5 +1,6 @@
 -- All of it is law: the claims that a reader holds against document 01. Demand3 is demand 3 of the definitions, Calls the same of the
--- calls that a C program links, RoundTrips their round trips, Sheets the starred sheets.
+-- calls that a C program links, RoundTrips their round trips, Acceptance when they refuse nothing, Sheets the starred sheets.
+pub mod Acceptance
 pub mod Calls
 pub mod Demand3
 pub mod RoundTrips
