@@ -1,17 +1,19 @@
 -- Where a line ends: the position found byte by byte, and that the lines of a text begin with the bytes up to that position.
 use Prim.Native.Nat.{ℕ, suc, _+_, _-_, _<_, _≤_}
 use mathlib.Core.Path.{_≡_, refl, ap, _∙_}
-use mathlib.Core.Bool.{true, false}
+use mathlib.Core.Bool.{true, false, not}
 use mathlib.Core.Logic.{⊎-elim}
-use mathlib.Core.List.{List, [], _∷_}
+use mathlib.Core.List.{List, [], _∷_, _++_}
 use native.Mathlib.Omega.{arith}
 use native.Mathlib.Numerals.{add-one}
 use lib.ListN.{length, getD, take, drop, length-drop, drop-of-length-le}
 use lib.Seq.{drop-cons, drop-drop}
 use lib.Dec.{eqb}
-use borrow.Author.Tests.{eq-eqb, ne-eqb}
-use Rattle.common.proofs.Lists.{by-test}
+use borrow.Author.Tests.{eq-eqb, ne-eqb, not-true}
+use Rattle.common.specs.Lists.{all-of}
+use Rattle.common.proofs.Lists.{by-test, and-left, and-right}
 use Rattle.figures.specs.Line.{left, _⏎_, onto, linesOf, beforeFeed, lineEnd}
+use Rattle.figures.proofs.Line.{oneLine}
 
 feed-first : (b : ℕ) (s : List ℕ) → eqb b 10 ≡ true → beforeFeed (b ∷ s) ≡ 0
 unfolding beforeFeed
@@ -51,6 +53,14 @@ feed-inside (b ∷ s) =
     ⊎-elim (λ (e : eqb b 10 ≡ true). rw (feed-first b s e) (omega arith))
     (λ (e : eqb b 10 ≡ false). let h : beforeFeed s ≤ length s = feed-inside s in rw (feed-next b s e) (omega arith))
     (by-test (eqb b 10))
+
+-- a line in front of a text ends where its bytes end
+pub feed-after : (l s : List ℕ) → oneLine l ≡ true → beforeFeed (l ++ (10 ∷ s)) ≡ length l
+unfolding oneLine all-of
+feed-after [] s h = feed-first 10 s refl
+feed-after (b ∷ l) s h =
+    feed-next b (l ++ (10 ∷ s)) (not-true (eqb b 10) (and-left (not (eqb b 10)) (oneLine l) h))
+    ∙ ap suc (feed-after l s (and-right (not (eqb b 10)) (oneLine l) h))
 
 -- the end lies within the text
 pub end-inside : (s : List ℕ) (at : ℕ) → at ≤ length s → (at ≤ lineEnd s at) × (lineEnd s at ≤ length s)

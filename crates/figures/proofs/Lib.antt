@@ -4,3 +4,4 @@ pub mod Ends
 pub mod Line
 pub mod Words
 pub mod Writing
+pub mod Steps

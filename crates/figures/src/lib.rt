@@ -5,6 +5,7 @@ ghost use lib.ListN.{getD, length};
 ghost use Rattle.figures.specs.Figure.{isDigit, decimal};
 ghost use Rattle.figures.specs.Line.{lineEnd};
 ghost use Rattle.figures.specs.Position.{stands, figureAt, put};
+ghost use Rattle.figures.specs.Past.{wordPast, figurePast};
 
 // Document 01, "Job text": a line is ended by a line feed.
 pub const LINE_FEED: u8 = 10;
@@ -93,6 +94,50 @@ pub fn read_figure(text: &[u8], at: usize) -> Figure
         }
     }
     Figure::At { value, next: i }
+}
+
+// A position past every text. It stands for a word or a figure that is not there, and nothing stands at it: a reader goes on from it
+// as from any other position and is still nowhere at the end.
+pub const NOWHERE: usize = 18446744073709551615;
+
+// The position past `word` where it stands at `at`.
+pub fn word_past(text: &[u8], at: usize, word: &[u8]) -> usize
+    ensures { λ r. ⌜ r ≡ wordPast (now (word .entry)) (now (text .entry)) at ⌝ }
+{
+    let n = word.len();
+    if text.len() < n {
+        return NOWHERE;
+    }
+    if text.len() - n < at {
+        return NOWHERE;
+    }
+    let mut j = 0;
+    while j < n {
+        if text[at + j] != word[j] {
+            return NOWHERE;
+        }
+        j += 1;
+    }
+    at + n
+}
+
+// A value that was read at a position, and the position past it; 0 and nowhere where there is none.
+pub struct Past {
+    pub value: u32,
+    pub next: usize,
+}
+
+// The figure at `at`.
+pub fn figure_past(text: &[u8], at: usize) -> Past
+    ensures { λ r. ⌜ r ≡ figurePast (now (text .entry)) at ⌝ }
+{
+    let Figure::At { value, next } = read_figure(text, at) else {
+        return Past {
+            value: 0,
+            next: NOWHERE,
+        };
+    };
+    Past { value, next }
 }
 
 // How many digits the figure of a number has. Above 99999 `decimal` is the last five digits.
