@@ -46,6 +46,11 @@ pub end-none : (s : List ℕ) (i : ℕ) → length s ≤ i → lineEnd s i ≡ i
 unfolding lineEnd beforeFeed
 end-none s i h = rw (drop-of-length-le s h) (omega arith)
 
+-- a line ends at or after its start
+pub not-before : (s : List ℕ) (at : ℕ) → at ≤ lineEnd s at
+unfolding lineEnd
+not-before s at = omega arith
+
 feed-inside : (s : List ℕ) → beforeFeed s ≤ length s
 unfolding beforeFeed
 feed-inside [] = omega arith

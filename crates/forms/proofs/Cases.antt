@@ -28,8 +28,9 @@ use Rattle.forms.specs.declared.Form.the-variants as form
 use Rattle.forms.specs.Template.{Template, word, figure, label, values}
 use Rattle.forms.specs.Forms.{jobForm, oneForm, nodeForm, outForm, endForm, crossbarForm, onForm, yesForm, noForm}
 use Rattle.forms.specs.Pattern.{isItem, valuesBy, maxValues, refusedValues, handed, answerOf}
-use Rattle.forms.specs.Form.{placed, switchOf, jobOf, oneOf, nodeOf, outOf, endOf, sizeOf, onOf, yesOf, noOf, notDue, either, cellLine, formOf}
-use Rattle.forms.proofs.Sorts.{cappedCell, capped, kindOf, valuesIn, ofKind, asJob, asOne, asNode, asOut, asEnd, asSize, asCell}
+use Rattle.forms.specs.Form.{placed, switchOf, jobFrom, oneFrom, nodeFrom, outFrom, endFrom, sizeFrom, onFrom, yesFrom, noFrom, notDue, either, cellLine, formOf}
+use Rattle.forms.specs.Read.{cappedCell}
+use Rattle.forms.proofs.Sorts.{capped, kindOf, valuesIn, ofKind, asJob, asOne, asNode, asOut, asEnd, asSize, asCell}
 use Rattle.forms.proofs.Form.{the-type}
 use Rattle.forms.proofs.Template.{Fits, word-values, written-values}
 use Rattle.forms.proofs.Pattern.{patternOf, plain, plainByte, values-by}
@@ -169,40 +170,40 @@ module _ {t : Template} {l : List ℕ} {r : Values} (a : Answer t l r) where
     passed k = rw (unfitted (values t l) refl k)
 
 -- a form is made of the values alone
-pub job-same : (vs : List ℕ) → jobOf (padded maxValues vs) ≡ jobOf vs
-unfolding jobOf
+pub job-same : (vs : List ℕ) → jobFrom (padded maxValues vs) ≡ jobFrom vs
+unfolding jobFrom
 job-same vs = rw (getD-pad vs 0, getD-pad vs 1, getD-pad vs 2)
 
-pub one-same : (vs : List ℕ) → oneOf (padded maxValues vs) ≡ oneOf vs
-unfolding oneOf
+pub one-same : (vs : List ℕ) → oneFrom (padded maxValues vs) ≡ oneFrom vs
+unfolding oneFrom
 one-same vs = rw (getD-pad vs 0)
 
-pub node-same : (vs : List ℕ) → nodeOf (padded maxValues vs) ≡ nodeOf vs
-unfolding nodeOf
+pub node-same : (vs : List ℕ) → nodeFrom (padded maxValues vs) ≡ nodeFrom vs
+unfolding nodeFrom
 node-same vs = rw (getD-pad vs 0, getD-pad vs 1, getD-pad vs 2, getD-pad vs 3, getD-pad vs 4)
 
-pub out-same : (vs : List ℕ) → outOf (padded maxValues vs) ≡ outOf vs
-unfolding outOf
+pub out-same : (vs : List ℕ) → outFrom (padded maxValues vs) ≡ outFrom vs
+unfolding outFrom
 out-same vs = rw (getD-pad vs 0, getD-pad vs 1)
 
-pub end-same : (vs : List ℕ) → endOf (padded maxValues vs) ≡ endOf vs
-unfolding endOf
+pub end-same : (vs : List ℕ) → endFrom (padded maxValues vs) ≡ endFrom vs
+unfolding endFrom
 end-same vs = refl
 
-pub size-same : (vs : List ℕ) → sizeOf (padded maxValues vs) ≡ sizeOf vs
-unfolding sizeOf
+pub size-same : (vs : List ℕ) → sizeFrom (padded maxValues vs) ≡ sizeFrom vs
+unfolding sizeFrom
 size-same vs = rw (getD-pad vs 0, getD-pad vs 1, getD-pad vs 2, getD-pad vs 3)
 
-pub on-same : (vs : List ℕ) → onOf (padded maxValues vs) ≡ onOf vs
-unfolding onOf
+pub on-same : (vs : List ℕ) → onFrom (padded maxValues vs) ≡ onFrom vs
+unfolding onFrom
 on-same vs = rw (getD-pad vs 0, getD-pad vs 1)
 
-pub yes-same : (vs : List ℕ) → yesOf (padded maxValues vs) ≡ yesOf vs
-unfolding yesOf
+pub yes-same : (vs : List ℕ) → yesFrom (padded maxValues vs) ≡ yesFrom vs
+unfolding yesFrom
 yes-same vs = rw (getD-pad vs 0, getD-pad vs 1, getD-pad vs 2)
 
-pub no-same : (vs : List ℕ) → noOf (padded maxValues vs) ≡ noOf vs
-unfolding noOf
+pub no-same : (vs : List ℕ) → noFrom (padded maxValues vs) ≡ noFrom vs
+unfolding noFrom
 no-same vs = rw (getD-pad vs 0, getD-pad vs 1, getD-pad vs 2)
 
 -- a switch up to 255 is taken as it is, and whether a switch is below a number of switches up to 255 is not changed
@@ -302,27 +303,27 @@ either-at f target (some vs) g rest h k = h vs refl
 module _ {A : Type 0} (f : Form → A) (target : A) (l : List ℕ) (n : ℕ) where
   -- whatever kind of cell line, or none
   at-cell :
-      ((vs : List ℕ) → values onForm l ≡ some vs → f (onOf vs) ≡ target)
-      → ((vs : List ℕ) → values onForm l ≡ none → values yesForm l ≡ some vs → f (yesOf vs) ≡ target)
-      → ((vs : List ℕ) → values onForm l ≡ none → values yesForm l ≡ none → values noForm l ≡ some vs → f (noOf vs) ≡ target)
+      ((vs : List ℕ) → values onForm l ≡ some vs → f (onFrom vs) ≡ target)
+      → ((vs : List ℕ) → values onForm l ≡ none → values yesForm l ≡ some vs → f (yesFrom vs) ≡ target)
+      → ((vs : List ℕ) → values onForm l ≡ none → values yesForm l ≡ none → values noForm l ≡ some vs → f (noFrom vs) ≡ target)
       → (values onForm l ≡ none → values yesForm l ≡ none → values noForm l ≡ none → f (notDue n) ≡ target)
       → f (cellLine l n) ≡ target
   unfolding cellLine
   at-cell by-on by-yes by-no left =
-      either-at f target (values onForm l) onOf _ by-on
+      either-at f target (values onForm l) onFrom _ by-on
       (λ (a : values onForm l ≡ none).
-      either-at f target (values yesForm l) yesOf _ (λ (vs : List ℕ). by-yes vs a)
+      either-at f target (values yesForm l) yesFrom _ (λ (vs : List ℕ). by-yes vs a)
       (λ (b : values yesForm l ≡ none).
-      either-at f target (values noForm l) noOf _ (λ (vs : List ℕ). by-no vs a b) (left a b)))
+      either-at f target (values noForm l) noFrom _ (λ (vs : List ℕ). by-no vs a b) (left a b)))
 
   -- whatever kind of line
   at-kind :
-      ((vs : List ℕ) → values jobForm l ≡ some vs → f (jobOf vs) ≡ target)
-      → ((vs : List ℕ) → values oneForm l ≡ some vs → f (oneOf vs) ≡ target)
-      → ((vs : List ℕ) → values nodeForm l ≡ some vs → f (nodeOf vs) ≡ target)
-      → ((vs : List ℕ) → values outForm l ≡ some vs → f (outOf vs) ≡ target)
-      → ((vs : List ℕ) → values endForm l ≡ some vs → f (endOf vs) ≡ target)
-      → ((vs : List ℕ) → values crossbarForm l ≡ some vs → f (sizeOf vs) ≡ target)
+      ((vs : List ℕ) → values jobForm l ≡ some vs → f (jobFrom vs) ≡ target)
+      → ((vs : List ℕ) → values oneForm l ≡ some vs → f (oneFrom vs) ≡ target)
+      → ((vs : List ℕ) → values nodeForm l ≡ some vs → f (nodeFrom vs) ≡ target)
+      → ((vs : List ℕ) → values outForm l ≡ some vs → f (outFrom vs) ≡ target)
+      → ((vs : List ℕ) → values endForm l ≡ some vs → f (endFrom vs) ≡ target)
+      → ((vs : List ℕ) → values crossbarForm l ≡ some vs → f (sizeFrom vs) ≡ target)
       → (values jobForm l ≡ none
       → values oneForm l ≡ none
       → values nodeForm l ≡ none
@@ -333,16 +334,16 @@ module _ {A : Type 0} (f : Form → A) (target : A) (l : List ℕ) (n : ℕ) whe
       → f (formOf l n) ≡ target
   unfolding formOf
   at-kind job one node out end size left =
-      either-at f target (values jobForm l) jobOf _ job
+      either-at f target (values jobForm l) jobFrom _ job
       (λ (a : values jobForm l ≡ none).
-      either-at f target (values oneForm l) oneOf _ one
+      either-at f target (values oneForm l) oneFrom _ one
       (λ (b : values oneForm l ≡ none).
-      either-at f target (values nodeForm l) nodeOf _ node
+      either-at f target (values nodeForm l) nodeFrom _ node
       (λ (c : values nodeForm l ≡ none).
-      either-at f target (values outForm l) outOf _ out
+      either-at f target (values outForm l) outFrom _ out
       (λ (d : values outForm l ≡ none).
-      either-at f target (values endForm l) endOf _ end
-      (λ (e : values endForm l ≡ none). either-at f target (values crossbarForm l) sizeOf _ size (left a b c d e))))))
+      either-at f target (values endForm l) endFrom _ end
+      (λ (e : values endForm l ≡ none). either-at f target (values crossbarForm l) sizeFrom _ size (left a b c d e))))))
 
 -- a form of another kind has no values of this kind
 of-other : (k : ℕ) (f : Form) → eqb (kindOf f) k ≡ false → ofKind k f ≡ none
@@ -363,88 +364,88 @@ module _ (k : ℕ) (t : Template) (l : List ℕ) (n : ℕ) where
 
   -- it is a cell line or no form
   cell-or-none : eqb 6 k ≡ false → eqb 7 k ≡ false → values t l ≡ none → ofKind k (cellLine l n) ≡ values t l
-  unfolding onOf yesOf noOf notDue kindOf
+  unfolding onFrom yesFrom noFrom notDue kindOf
   cell-or-none a b z =
-      at-cell (ofKind k) (values t l) l n (λ vs e. of-other k (onOf vs) a ∙ sym z) (λ vs x e. of-other k (yesOf vs) a ∙ sym z)
-      (λ vs x y e. of-other k (noOf vs) a ∙ sym z)
+      at-cell (ofKind k) (values t l) l n (λ vs e. of-other k (onFrom vs) a ∙ sym z) (λ vs x e. of-other k (yesFrom vs) a ∙ sym z)
+      (λ vs x y e. of-other k (noFrom vs) a ∙ sym z)
       (λ x y e. of-other k (notDue n) b ∙ sym z)
 
 module _ (l : List ℕ) (n : ℕ) where
   pub as-job : asJob (formOf l n) ≡ values jobForm l
-  unfolding differ headOf bytes jobForm oneForm nodeForm outForm endForm crossbarForm jobOf oneOf nodeOf outOf endOf sizeOf kindOf valuesIn ofKind tab places
+  unfolding differ headOf bytes jobForm oneForm nodeForm outForm endForm crossbarForm jobFrom oneFrom nodeFrom outFrom endFrom sizeFrom kindOf valuesIn ofKind tab places
   as-job =
       let m = elsewhere 0 jobForm l n in
       at-kind (ofKind 0) (values jobForm l) l n
       (λ vs e. ap some (exact 3 vs (values-places jobForm l vs e)) ∙ sym e)
-      (m oneForm refl oneOf (λ vs. refl))
-      (m nodeForm refl nodeOf (λ vs. refl))
-      (m outForm refl outOf (λ vs. refl))
-      (m endForm refl endOf (λ vs. refl))
-      (m crossbarForm refl sizeOf (λ vs. refl))
+      (m oneForm refl oneFrom (λ vs. refl))
+      (m nodeForm refl nodeFrom (λ vs. refl))
+      (m outForm refl outFrom (λ vs. refl))
+      (m endForm refl endFrom (λ vs. refl))
+      (m crossbarForm refl sizeFrom (λ vs. refl))
       (λ x0 x1 x2 x3 x4 x5. cell-or-none 0 jobForm l n refl refl x0)
 
   pub as-one : asOne (formOf l n) ≡ values oneForm l
-  unfolding differ headOf bytes jobForm oneForm nodeForm outForm endForm crossbarForm jobOf oneOf nodeOf outOf endOf sizeOf kindOf valuesIn ofKind tab places
+  unfolding differ headOf bytes jobForm oneForm nodeForm outForm endForm crossbarForm jobFrom oneFrom nodeFrom outFrom endFrom sizeFrom kindOf valuesIn ofKind tab places
   as-one =
       let m = elsewhere 1 oneForm l n in
       at-kind (ofKind 1) (values oneForm l) l n
-      (m jobForm refl jobOf (λ vs. refl))
+      (m jobForm refl jobFrom (λ vs. refl))
       (λ vs e. ap some (exact 1 vs (values-places oneForm l vs e)) ∙ sym e)
-      (m nodeForm refl nodeOf (λ vs. refl))
-      (m outForm refl outOf (λ vs. refl))
-      (m endForm refl endOf (λ vs. refl))
-      (m crossbarForm refl sizeOf (λ vs. refl))
+      (m nodeForm refl nodeFrom (λ vs. refl))
+      (m outForm refl outFrom (λ vs. refl))
+      (m endForm refl endFrom (λ vs. refl))
+      (m crossbarForm refl sizeFrom (λ vs. refl))
       (λ x0 x1 x2 x3 x4 x5. cell-or-none 1 oneForm l n refl refl x1)
 
   pub as-node : asNode (formOf l n) ≡ values nodeForm l
-  unfolding differ headOf bytes jobForm oneForm nodeForm outForm endForm crossbarForm jobOf oneOf nodeOf outOf endOf sizeOf kindOf valuesIn ofKind tab places
+  unfolding differ headOf bytes jobForm oneForm nodeForm outForm endForm crossbarForm jobFrom oneFrom nodeFrom outFrom endFrom sizeFrom kindOf valuesIn ofKind tab places
   as-node =
       let m = elsewhere 2 nodeForm l n in
       at-kind (ofKind 2) (values nodeForm l) l n
-      (m jobForm refl jobOf (λ vs. refl))
-      (m oneForm refl oneOf (λ vs. refl))
+      (m jobForm refl jobFrom (λ vs. refl))
+      (m oneForm refl oneFrom (λ vs. refl))
       (λ vs e. ap some (exact 5 vs (values-places nodeForm l vs e)) ∙ sym e)
-      (m outForm refl outOf (λ vs. refl))
-      (m endForm refl endOf (λ vs. refl))
-      (m crossbarForm refl sizeOf (λ vs. refl))
+      (m outForm refl outFrom (λ vs. refl))
+      (m endForm refl endFrom (λ vs. refl))
+      (m crossbarForm refl sizeFrom (λ vs. refl))
       (λ x0 x1 x2 x3 x4 x5. cell-or-none 2 nodeForm l n refl refl x2)
 
   pub as-out : asOut (formOf l n) ≡ values outForm l
-  unfolding differ headOf bytes jobForm oneForm nodeForm outForm endForm crossbarForm jobOf oneOf nodeOf outOf endOf sizeOf kindOf valuesIn ofKind tab places
+  unfolding differ headOf bytes jobForm oneForm nodeForm outForm endForm crossbarForm jobFrom oneFrom nodeFrom outFrom endFrom sizeFrom kindOf valuesIn ofKind tab places
   as-out =
       let m = elsewhere 3 outForm l n in
       at-kind (ofKind 3) (values outForm l) l n
-      (m jobForm refl jobOf (λ vs. refl))
-      (m oneForm refl oneOf (λ vs. refl))
-      (m nodeForm refl nodeOf (λ vs. refl))
+      (m jobForm refl jobFrom (λ vs. refl))
+      (m oneForm refl oneFrom (λ vs. refl))
+      (m nodeForm refl nodeFrom (λ vs. refl))
       (λ vs e. ap some (exact 2 vs (values-places outForm l vs e)) ∙ sym e)
-      (m endForm refl endOf (λ vs. refl))
-      (m crossbarForm refl sizeOf (λ vs. refl))
+      (m endForm refl endFrom (λ vs. refl))
+      (m crossbarForm refl sizeFrom (λ vs. refl))
       (λ x0 x1 x2 x3 x4 x5. cell-or-none 3 outForm l n refl refl x3)
 
   pub as-end : asEnd (formOf l n) ≡ values endForm l
-  unfolding differ headOf bytes jobForm oneForm nodeForm outForm endForm crossbarForm jobOf oneOf nodeOf outOf endOf sizeOf kindOf valuesIn ofKind tab places
+  unfolding differ headOf bytes jobForm oneForm nodeForm outForm endForm crossbarForm jobFrom oneFrom nodeFrom outFrom endFrom sizeFrom kindOf valuesIn ofKind tab places
   as-end =
       let m = elsewhere 4 endForm l n in
       at-kind (ofKind 4) (values endForm l) l n
-      (m jobForm refl jobOf (λ vs. refl))
-      (m oneForm refl oneOf (λ vs. refl))
-      (m nodeForm refl nodeOf (λ vs. refl))
-      (m outForm refl outOf (λ vs. refl))
+      (m jobForm refl jobFrom (λ vs. refl))
+      (m oneForm refl oneFrom (λ vs. refl))
+      (m nodeForm refl nodeFrom (λ vs. refl))
+      (m outForm refl outFrom (λ vs. refl))
       (λ vs e. ap some (exact 0 vs (values-places endForm l vs e)) ∙ sym e)
-      (m crossbarForm refl sizeOf (λ vs. refl))
+      (m crossbarForm refl sizeFrom (λ vs. refl))
       (λ x0 x1 x2 x3 x4 x5. cell-or-none 4 endForm l n refl refl x4)
 
   pub as-size : asSize (formOf l n) ≡ values crossbarForm l
-  unfolding differ headOf bytes jobForm oneForm nodeForm outForm endForm crossbarForm jobOf oneOf nodeOf outOf endOf sizeOf kindOf valuesIn ofKind tab places
+  unfolding differ headOf bytes jobForm oneForm nodeForm outForm endForm crossbarForm jobFrom oneFrom nodeFrom outFrom endFrom sizeFrom kindOf valuesIn ofKind tab places
   as-size =
       let m = elsewhere 5 crossbarForm l n in
       at-kind (ofKind 5) (values crossbarForm l) l n
-      (m jobForm refl jobOf (λ vs. refl))
-      (m oneForm refl oneOf (λ vs. refl))
-      (m nodeForm refl nodeOf (λ vs. refl))
-      (m outForm refl outOf (λ vs. refl))
-      (m endForm refl endOf (λ vs. refl))
+      (m jobForm refl jobFrom (λ vs. refl))
+      (m oneForm refl oneFrom (λ vs. refl))
+      (m nodeForm refl nodeFrom (λ vs. refl))
+      (m outForm refl outFrom (λ vs. refl))
+      (m endForm refl endFrom (λ vs. refl))
       (λ vs e. ap some (exact 4 vs (values-places crossbarForm l vs e)) ∙ sym e)
       (λ x0 x1 x2 x3 x4 x5. cell-or-none 5 crossbarForm l n refl refl x5)
 
@@ -454,7 +455,7 @@ module _ (l : List ℕ) (n : ℕ) where
   no-cell u d vs e = rw (other u onForm d l vs e, other u yesForm d l vs e, other u noForm d l vs e, placed)
 
   pub as-cell : asCell (formOf l n) ≡ Option·map capped (placed l)
-  unfolding differ headOf bytes jobForm oneForm nodeForm outForm endForm crossbarForm jobOf oneOf nodeOf outOf endOf sizeOf onOf yesOf noOf notDue asCell capped cappedCell placed
+  unfolding differ headOf bytes jobForm oneForm nodeForm outForm endForm crossbarForm jobFrom oneFrom nodeFrom outFrom endFrom sizeFrom onFrom yesFrom noFrom notDue asCell capped cappedCell placed
   as-cell =
       at-kind asCell (Option·map capped (placed l)) l n
       (no-cell jobForm refl)

@@ -7,3 +7,6 @@ pub mod Lines
 pub mod Parts
 pub mod Items
 pub mod Filling
+pub mod Steps
+pub mod CellLine
+pub mod LineReads

@@ -4,19 +4,12 @@ use mathlib.Core.Bool.{true, false}
 use mathlib.Core.Option.{Option, some, none}
 use mathlib.Core.List.{List, [], _∷_}
 use lib.Dec.{eqb}
-use Rattle.cells.specs.declared.Cell.{Cell}
-use Rattle.cells.specs.declared.Cell.the-variants.{Off, On, Yes, No}
 use Rattle.forms.specs.declared.Form.{Form}
 use Rattle.forms.specs.declared.Form.the-variants as form
-use Rattle.forms.specs.Form.{Placed, switchOf}
+use Rattle.forms.specs.Form.{Placed}
+use Rattle.forms.specs.Read.{cappedCell}
 
 -- a placed cell as a form holds it
-unfoldable pub cappedCell : Cell → Cell
-cappedCell Off = Off
-cappedCell On = On
-cappedCell (Yes x) = Yes (switchOf x)
-cappedCell (No x) = No (switchOf x)
-
 unfoldable pub capped : Placed → Placed
 capped p = record { row = p .row; column = p .column; cell = cappedCell (p .cell) }
 

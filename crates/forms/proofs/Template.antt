@@ -140,11 +140,11 @@ after-other : (a b : ℕ) (w s : List ℕ) → eqb a b ≡ false → after (a �
 unfolding after
 after-other a b w s h = rw (h, after)
 
-after-front : (w s : List ℕ) → after w (w ++ s) ≡ some s
+pub after-front : (w s : List ℕ) → after w (w ++ s) ≡ some s
 after-front [] s = unfold after in refl
 after-front (a ∷ w) s = after-same a a w (w ++ s) (eq-eqb a a refl) ∙ after-front w s
 
-after-taken : (w s r : List ℕ) → after w s ≡ some r → s ≡ w ++ r
+pub after-taken : (w s r : List ℕ) → after w s ≡ some r → s ≡ w ++ r
 after-taken [] s r h = unfold after in cc
 after-taken (a ∷ w) [] r h = unfold after in absurd (let z : _≡_ {A = ℕ} 0 1 = cc in omega arith)
 after-taken (a ∷ w) (b ∷ s) r h =
@@ -159,7 +159,7 @@ after-taken (a ∷ w) (b ∷ s) r h =
     (by-test (eqb a b))
 
 -- a label and its letter
-letter-label : (v : ℕ) → 1 ≤ v → v ≤ 3 → labelOf (letterOf v) ≡ v
+pub letter-label : (v : ℕ) → 1 ≤ v → v ≤ 3 → labelOf (letterOf v) ≡ v
 letter-label v low high =
     ⊎-elim
     (λ (h : v < 2). let e : v ≡ 1 = omega arith in rw e (unfold labelOf letterOf in refl))
@@ -188,7 +188,7 @@ label-cases b h =
     (by-test (eqb b 118)))
     (by-test (eqb b 104))
 
-label-letter : (b : ℕ) → eqb (labelOf b) 0 ≡ false → (letterOf (labelOf b) ≡ b) × (1 ≤ labelOf b) × (labelOf b ≤ 3)
+pub label-letter : (b : ℕ) → eqb (labelOf b) 0 ≡ false → (letterOf (labelOf b) ≡ b) × (1 ≤ labelOf b) × (labelOf b ≤ 3)
 unfolding labelOf letterOf
 label-letter b h =
     ⊎-elim
@@ -267,7 +267,7 @@ more-values :
 more-values v none us h = absurd (let z : _≡_ {A = ℕ} 0 1 = cc in omega arith)
 more-values v (some vs) us h = (vs, refl, cc)
 
-parts-front : (w s : List ℕ) → parts w ≡ true → noDigit (w ++ s) ≡ true
+pub parts-front : (w s : List ℕ) → parts w ≡ true → noDigit (w ++ s) ≡ true
 unfolding parts noDigit
 parts-front [] s h = absurd (let z : _≡_ {A = ℕ} 0 1 = cc in omega arith)
 parts-front (b ∷ w) s h = h

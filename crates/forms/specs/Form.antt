@@ -40,34 +40,34 @@ unfoldable pub switchOf : ℕ → ℕ
 switchOf x = elim (leb x 255) [ true ↦ x | false ↦ 255 ]
 
 -- the form of each kind, of its values
-unfoldable pub jobOf : List ℕ → Form
-jobOf vs = form.Job (record { switches = getD vs 0 0; nodes = getD vs 1 0; outputs = getD vs 2 0 })
+unfoldable pub jobFrom : List ℕ → Form
+jobFrom vs = form.Job (record { switches = getD vs 0 0; nodes = getD vs 1 0; outputs = getD vs 2 0 })
 
-unfoldable pub oneOf : List ℕ → Form
-oneOf vs = form.One (getD vs 0 0)
+unfoldable pub oneFrom : List ℕ → Form
+oneFrom vs = form.One (getD vs 0 0)
 
-unfoldable pub nodeOf : List ℕ → Form
-nodeOf vs =
+unfoldable pub nodeFrom : List ℕ → Form
+nodeFrom vs =
     form.Node (record { id = getD vs 0 0; x = getD vs 1 0; l = getD vs 2 0; h = getD vs 3 0; t = getD vs 4 0 })
 
-unfoldable pub outOf : List ℕ → Form
-outOf vs = form.Out (record { number = getD vs 0 0; target = getD vs 1 0 })
+unfoldable pub outFrom : List ℕ → Form
+outFrom vs = form.Out (record { number = getD vs 0 0; target = getD vs 1 0 })
 
-unfoldable pub endOf : List ℕ → Form
-endOf vs = form.End
+unfoldable pub endFrom : List ℕ → Form
+endFrom vs = form.End
 
-unfoldable pub sizeOf : List ℕ → Form
-sizeOf vs =
+unfoldable pub sizeFrom : List ℕ → Form
+sizeFrom vs =
     form.Size (record { rows = getD vs 0 0; columns = getD vs 1 0; switches = getD vs 2 0; outputs = getD vs 3 0 })
 
-unfoldable pub onOf : List ℕ → Form
-onOf vs = form.Cell (record { row = getD vs 0 0; column = getD vs 1 0; cell = On })
+unfoldable pub onFrom : List ℕ → Form
+onFrom vs = form.Cell (record { row = getD vs 0 0; column = getD vs 1 0; cell = On })
 
-unfoldable pub yesOf : List ℕ → Form
-yesOf vs = form.Cell (record { row = getD vs 0 0; column = getD vs 1 0; cell = Yes (switchOf (getD vs 2 0)) })
+unfoldable pub yesFrom : List ℕ → Form
+yesFrom vs = form.Cell (record { row = getD vs 0 0; column = getD vs 1 0; cell = Yes (switchOf (getD vs 2 0)) })
 
-unfoldable pub noOf : List ℕ → Form
-noOf vs = form.Cell (record { row = getD vs 0 0; column = getD vs 1 0; cell = No (switchOf (getD vs 2 0)) })
+unfoldable pub noFrom : List ℕ → Form
+noFrom vs = form.Cell (record { row = getD vs 0 0; column = getD vs 1 0; cell = No (switchOf (getD vs 2 0)) })
 
 -- ground 1: "The line is missing or not the form due."
 unfoldable pub notDue : ℕ → Form
@@ -81,17 +81,17 @@ either (some vs) f other = f vs
 -- the form of a line, number n of the text, where it can only be a cell line
 unfoldable pub cellLine : List ℕ → ℕ → Form
 cellLine l n =
-    either (values onForm l) onOf (either (values yesForm l) yesOf (either (values noForm l) noOf (notDue n)))
+    either (values onForm l) onFrom (either (values yesForm l) yesFrom (either (values noForm l) noFrom (notDue n)))
 
 -- the form of a line, number n of the text
 unfoldable pub formOf : List ℕ → ℕ → Form
 formOf l n =
-    either (values jobForm l) jobOf
-    (either (values oneForm l) oneOf
-    (either (values nodeForm l) nodeOf
-    (either (values outForm l) outOf
-    (either (values endForm l) endOf
-    (either (values crossbarForm l) sizeOf
+    either (values jobForm l) jobFrom
+    (either (values oneForm l) oneFrom
+    (either (values nodeForm l) nodeFrom
+    (either (values outForm l) outFrom
+    (either (values endForm l) endFrom
+    (either (values crossbarForm l) sizeFrom
     (cellLine l n))))))
 
 -- the form of the line due, number n of the text; ground 1 where it is missing

@@ -4,3 +4,4 @@ pub mod Form
 pub mod Forms
 pub mod Pattern
 pub mod Filled
+pub mod Read

@@ -21,7 +21,8 @@ use Rattle.cells.specs.declared.Cell.the-variants.{Off, On, Yes, No}
 use Rattle.forms.specs.declared.Form.{Form}
 use Rattle.forms.specs.declared.SizeForm.{SizeForm}
 use Rattle.forms.specs.Form.{Placed, placed, switchOf, notDue, formIn}
-use Rattle.forms.proofs.Sorts.{cappedCell, capped, kindOf, ofKind, asEnd, asCell}
+use Rattle.forms.specs.Read.{cappedCell}
+use Rattle.forms.proofs.Sorts.{capped, kindOf, ofKind, asEnd, asCell}
 use Rattle.forms.specs.Due.{due}
 use Rattle.forms.proofs.Cases.{as-cell}
 use Rattle.forms.proofs.Lines.{due-end, no-end, lines-after}

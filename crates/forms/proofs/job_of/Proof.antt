@@ -1,6 +1,6 @@
 -- `forms::job_of` meets its contract by its definition.
 use mathlib.Core.Path.{refl}
-use Rattle.forms.specs.Form.{jobOf}
+use Rattle.forms.specs.Form.{jobFrom}
 use borrow.Author.Needs.{needs}
 use Rattle.forms.proofs.job_of.Statement.{statement}
 use Rattle.forms.proofs.job_of.Tie as tie
@@ -15,7 +15,7 @@ element-copy-out-t11 : tie.Need-element-copy-out-t11
 element-copy-out-t11 c = search needs
 
 returns : tie.Need-returns
-unfolding jobOf
+unfolding jobFrom
 returns c = refl
 
 pub job-of-spec : {M : Type 1} → statement M

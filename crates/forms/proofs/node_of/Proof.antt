@@ -1,6 +1,6 @@
 -- `forms::node_of` meets its contract by its definition.
 use mathlib.Core.Path.{refl}
-use Rattle.forms.specs.Form.{nodeOf}
+use Rattle.forms.specs.Form.{nodeFrom}
 use borrow.Author.Needs.{needs}
 use Rattle.forms.proofs.node_of.Statement.{statement}
 use Rattle.forms.proofs.node_of.Tie as tie
@@ -21,7 +21,7 @@ element-copy-out-t17 : tie.Need-element-copy-out-t17
 element-copy-out-t17 c = search needs
 
 returns : tie.Need-returns
-unfolding nodeOf
+unfolding nodeFrom
 returns c = refl
 
 pub node-of-spec : {M : Type 1} → statement M

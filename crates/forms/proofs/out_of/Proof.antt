@@ -1,6 +1,6 @@
 -- `forms::out_of` meets its contract by its definition.
 use mathlib.Core.Path.{refl}
-use Rattle.forms.specs.Form.{outOf}
+use Rattle.forms.specs.Form.{outFrom}
 use borrow.Author.Needs.{needs}
 use Rattle.forms.proofs.out_of.Statement.{statement}
 use Rattle.forms.proofs.out_of.Tie as tie
@@ -12,7 +12,7 @@ element-copy-out-t8 : tie.Need-element-copy-out-t8
 element-copy-out-t8 c = search needs
 
 returns : tie.Need-returns
-unfolding outOf
+unfolding outFrom
 returns c = refl
 
 pub out-of-spec : {M : Type 1} → statement M

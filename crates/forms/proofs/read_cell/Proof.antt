@@ -1,7 +1,7 @@
 -- `forms::read_cell` meets its contract: the templates that the line does not fit are passed, and the first that it fits is taken.
 use mathlib.Core.Path.{_∙_}
 use Rattle.figures.specs.Bytes.{bytes}
-use Rattle.forms.specs.Form.{onOf, yesOf, noOf, notDue, cellLine}
+use Rattle.forms.specs.Form.{onFrom, yesFrom, noFrom, notDue, cellLine}
 use Rattle.forms.proofs.Cases.{taken, passed, on-answer, yes-answer, no-answer, on-same, yes-same, no-same}
 use borrow.Author.Needs.{needs}
 use Rattle.forms.proofs.read_cell.Statement.{statement}
@@ -20,10 +20,10 @@ element-copy-out-t20 : tie.Need-element-copy-out-t20
 element-copy-out-t20 c = search needs
 
 returns : tie.Need-returns
-unfolding bytes cellLine onOf
+unfolding bytes cellLine onFrom
 returns c =
     let x = c .before .before in
-    taken (on-answer _ _ (x .before .read-values .ensures)) onOf _ on-same (x .if1 .taken)
+    taken (on-answer _ _ (x .before .read-values .ensures)) onFrom _ on-same (x .if1 .taken)
 
 slice-aggregate-read-values-2 : tie.Need-slice-aggregate-read-values-2
 slice-aggregate-read-values-2 c = search needs
@@ -44,13 +44,13 @@ element-copy-out-t32 : tie.Need-element-copy-out-t32
 element-copy-out-t32 c = search needs
 
 returns-2 : tie.Need-returns-2
-unfolding bytes cellLine yesOf
+unfolding bytes cellLine yesFrom
 returns-2 c =
     let x = c .before .before .before .before in
     let e1 = x .before .before .before in
     rw (c .before .before .switch-of .ensures)
-    (taken (yes-answer _ _ (x .before .read-values2 .ensures)) yesOf _ yes-same (x .if2 .taken)
-    ∙ passed (on-answer _ _ (e1 .before .read-values .ensures)) onOf _ (e1 .if1 .left))
+    (taken (yes-answer _ _ (x .before .read-values2 .ensures)) yesFrom _ yes-same (x .if2 .taken)
+    ∙ passed (on-answer _ _ (e1 .before .read-values .ensures)) onFrom _ (e1 .if1 .left))
 
 slice-aggregate-read-values-3 : tie.Need-slice-aggregate-read-values-3
 slice-aggregate-read-values-3 c = search needs
@@ -71,24 +71,24 @@ element-copy-out-t44 : tie.Need-element-copy-out-t44
 element-copy-out-t44 c = search needs
 
 returns-3 : tie.Need-returns-3
-unfolding bytes cellLine noOf
+unfolding bytes cellLine noFrom
 returns-3 c =
     let x = c .before .before .before .before in
     let e2 = x .before .before .before in
     let e1 = e2 .before .before .before in
     rw (c .before .before .switch-of2 .ensures)
-    (taken (no-answer _ _ (x .before .read-values3 .ensures)) noOf _ no-same (x .if3 .taken)
-    ∙ passed (yes-answer _ _ (e2 .before .read-values2 .ensures)) yesOf _ (e2 .if2 .left)
-    ∙ passed (on-answer _ _ (e1 .before .read-values .ensures)) onOf _ (e1 .if1 .left))
+    (taken (no-answer _ _ (x .before .read-values3 .ensures)) noFrom _ no-same (x .if3 .taken)
+    ∙ passed (yes-answer _ _ (e2 .before .read-values2 .ensures)) yesFrom _ (e2 .if2 .left)
+    ∙ passed (on-answer _ _ (e1 .before .read-values .ensures)) onFrom _ (e1 .if1 .left))
 
 returns-4 : tie.Need-returns-4
 unfolding bytes cellLine notDue
 returns-4 c =
     let e2 = c .before .before .before in
     let e1 = e2 .before .before .before in
-    passed (no-answer _ _ (c .before .read-values3 .ensures)) noOf _ (c .if3 .left)
-    ∙ passed (yes-answer _ _ (e2 .before .read-values2 .ensures)) yesOf _ (e2 .if2 .left)
-    ∙ passed (on-answer _ _ (e1 .before .read-values .ensures)) onOf _ (e1 .if1 .left)
+    passed (no-answer _ _ (c .before .read-values3 .ensures)) noFrom _ (c .if3 .left)
+    ∙ passed (yes-answer _ _ (e2 .before .read-values2 .ensures)) yesFrom _ (e2 .if2 .left)
+    ∙ passed (on-answer _ _ (e1 .before .read-values .ensures)) onFrom _ (e1 .if1 .left)
 
 pub read-cell-spec : {M : Type 1} → statement M
 read-cell-spec =

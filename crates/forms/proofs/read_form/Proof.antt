@@ -1,7 +1,7 @@
 -- `forms::read_form` meets its contract: the templates that the line does not fit are passed, and the first that it fits is taken.
 use mathlib.Core.Path.{_∙_}
 use Rattle.figures.specs.Bytes.{bytes}
-use Rattle.forms.specs.Form.{jobOf, oneOf, nodeOf, outOf, endOf, sizeOf, formOf}
+use Rattle.forms.specs.Form.{jobFrom, oneFrom, nodeFrom, outFrom, endFrom, sizeFrom, formOf}
 use Rattle.forms.proofs.Cases.{
   taken,
   passed,
@@ -36,7 +36,7 @@ unfolding bytes formOf
 returns c =
     let x = c .before in
     c .job-of .ensures
-    ∙ taken (job-answer _ _ (x .before .read-values .ensures)) jobOf _ job-same (x .if1 .taken)
+    ∙ taken (job-answer _ _ (x .before .read-values .ensures)) jobFrom _ job-same (x .if1 .taken)
 
 slice-aggregate-read-values-2 : tie.Need-slice-aggregate-read-values-2
 slice-aggregate-read-values-2 c = search needs
@@ -48,12 +48,12 @@ element-copy-out-t23 : tie.Need-element-copy-out-t23
 element-copy-out-t23 c = search needs
 
 returns-2 : tie.Need-returns-2
-unfolding bytes formOf oneOf
+unfolding bytes formOf oneFrom
 returns-2 c =
     let x = c .before in
     let e1 = x .before .before .before in
-    taken (one-answer _ _ (x .before .read-values2 .ensures)) oneOf _ one-same (x .if2 .taken)
-    ∙ passed (job-answer _ _ (e1 .before .read-values .ensures)) jobOf _ (e1 .if1 .left)
+    taken (one-answer _ _ (x .before .read-values2 .ensures)) oneFrom _ one-same (x .if2 .taken)
+    ∙ passed (job-answer _ _ (e1 .before .read-values .ensures)) jobFrom _ (e1 .if1 .left)
 
 slice-aggregate-read-values-3 : tie.Need-slice-aggregate-read-values-3
 slice-aggregate-read-values-3 c = search needs
@@ -71,9 +71,9 @@ returns-3 c =
     let e2 = x .before .before .before in
     let e1 = e2 .before .before .before in
     c .node-of .ensures
-    ∙ taken (node-answer _ _ (x .before .read-values3 .ensures)) nodeOf _ node-same (x .if3 .taken)
-    ∙ passed (one-answer _ _ (e2 .before .read-values2 .ensures)) oneOf _ (e2 .if2 .left)
-    ∙ passed (job-answer _ _ (e1 .before .read-values .ensures)) jobOf _ (e1 .if1 .left)
+    ∙ taken (node-answer _ _ (x .before .read-values3 .ensures)) nodeFrom _ node-same (x .if3 .taken)
+    ∙ passed (one-answer _ _ (e2 .before .read-values2 .ensures)) oneFrom _ (e2 .if2 .left)
+    ∙ passed (job-answer _ _ (e1 .before .read-values .ensures)) jobFrom _ (e1 .if1 .left)
 
 slice-aggregate-read-values-4 : tie.Need-slice-aggregate-read-values-4
 slice-aggregate-read-values-4 c = search needs
@@ -92,10 +92,10 @@ returns-4 c =
     let e2 = e3 .before .before .before in
     let e1 = e2 .before .before .before in
     c .out-of .ensures
-    ∙ taken (out-answer _ _ (x .before .read-values4 .ensures)) outOf _ out-same (x .if4 .taken)
-    ∙ passed (node-answer _ _ (e3 .before .read-values3 .ensures)) nodeOf _ (e3 .if3 .left)
-    ∙ passed (one-answer _ _ (e2 .before .read-values2 .ensures)) oneOf _ (e2 .if2 .left)
-    ∙ passed (job-answer _ _ (e1 .before .read-values .ensures)) jobOf _ (e1 .if1 .left)
+    ∙ taken (out-answer _ _ (x .before .read-values4 .ensures)) outFrom _ out-same (x .if4 .taken)
+    ∙ passed (node-answer _ _ (e3 .before .read-values3 .ensures)) nodeFrom _ (e3 .if3 .left)
+    ∙ passed (one-answer _ _ (e2 .before .read-values2 .ensures)) oneFrom _ (e2 .if2 .left)
+    ∙ passed (job-answer _ _ (e1 .before .read-values .ensures)) jobFrom _ (e1 .if1 .left)
 
 slice-aggregate-read-values-5 : tie.Need-slice-aggregate-read-values-5
 slice-aggregate-read-values-5 c = search needs
@@ -104,18 +104,18 @@ read-values-requires-5 : tie.Need-read-values-requires-5
 read-values-requires-5 c κs = search needs
 
 returns-5 : tie.Need-returns-5
-unfolding bytes formOf endOf
+unfolding bytes formOf endFrom
 returns-5 c =
     let x = c in
     let e4 = x .before .before .before in
     let e3 = e4 .before .before .before in
     let e2 = e3 .before .before .before in
     let e1 = e2 .before .before .before in
-    taken (end-answer _ _ (x .before .read-values5 .ensures)) endOf _ end-same (x .if5 .taken)
-    ∙ passed (out-answer _ _ (e4 .before .read-values4 .ensures)) outOf _ (e4 .if4 .left)
-    ∙ passed (node-answer _ _ (e3 .before .read-values3 .ensures)) nodeOf _ (e3 .if3 .left)
-    ∙ passed (one-answer _ _ (e2 .before .read-values2 .ensures)) oneOf _ (e2 .if2 .left)
-    ∙ passed (job-answer _ _ (e1 .before .read-values .ensures)) jobOf _ (e1 .if1 .left)
+    taken (end-answer _ _ (x .before .read-values5 .ensures)) endFrom _ end-same (x .if5 .taken)
+    ∙ passed (out-answer _ _ (e4 .before .read-values4 .ensures)) outFrom _ (e4 .if4 .left)
+    ∙ passed (node-answer _ _ (e3 .before .read-values3 .ensures)) nodeFrom _ (e3 .if3 .left)
+    ∙ passed (one-answer _ _ (e2 .before .read-values2 .ensures)) oneFrom _ (e2 .if2 .left)
+    ∙ passed (job-answer _ _ (e1 .before .read-values .ensures)) jobFrom _ (e1 .if1 .left)
 
 slice-aggregate-read-values-6 : tie.Need-slice-aggregate-read-values-6
 slice-aggregate-read-values-6 c = search needs
@@ -136,12 +136,12 @@ returns-6 c =
     let e2 = e3 .before .before .before in
     let e1 = e2 .before .before .before in
     c .size-of .ensures
-    ∙ taken (size-answer _ _ (x .before .read-values6 .ensures)) sizeOf _ size-same (x .if6 .taken)
-    ∙ passed (end-answer _ _ (e5 .before .read-values5 .ensures)) endOf _ (e5 .if5 .left)
-    ∙ passed (out-answer _ _ (e4 .before .read-values4 .ensures)) outOf _ (e4 .if4 .left)
-    ∙ passed (node-answer _ _ (e3 .before .read-values3 .ensures)) nodeOf _ (e3 .if3 .left)
-    ∙ passed (one-answer _ _ (e2 .before .read-values2 .ensures)) oneOf _ (e2 .if2 .left)
-    ∙ passed (job-answer _ _ (e1 .before .read-values .ensures)) jobOf _ (e1 .if1 .left)
+    ∙ taken (size-answer _ _ (x .before .read-values6 .ensures)) sizeFrom _ size-same (x .if6 .taken)
+    ∙ passed (end-answer _ _ (e5 .before .read-values5 .ensures)) endFrom _ (e5 .if5 .left)
+    ∙ passed (out-answer _ _ (e4 .before .read-values4 .ensures)) outFrom _ (e4 .if4 .left)
+    ∙ passed (node-answer _ _ (e3 .before .read-values3 .ensures)) nodeFrom _ (e3 .if3 .left)
+    ∙ passed (one-answer _ _ (e2 .before .read-values2 .ensures)) oneFrom _ (e2 .if2 .left)
+    ∙ passed (job-answer _ _ (e1 .before .read-values .ensures)) jobFrom _ (e1 .if1 .left)
 
 read-cell-requires : tie.Need-read-cell-requires
 read-cell-requires c κs = search needs
@@ -156,12 +156,12 @@ returns-7 c =
     let e2 = e3 .before .before .before in
     let e1 = e2 .before .before .before in
     c .read-cell .ensures
-    ∙ passed (size-answer _ _ (e6 .before .read-values6 .ensures)) sizeOf _ (e6 .if6 .left)
-    ∙ passed (end-answer _ _ (e5 .before .read-values5 .ensures)) endOf _ (e5 .if5 .left)
-    ∙ passed (out-answer _ _ (e4 .before .read-values4 .ensures)) outOf _ (e4 .if4 .left)
-    ∙ passed (node-answer _ _ (e3 .before .read-values3 .ensures)) nodeOf _ (e3 .if3 .left)
-    ∙ passed (one-answer _ _ (e2 .before .read-values2 .ensures)) oneOf _ (e2 .if2 .left)
-    ∙ passed (job-answer _ _ (e1 .before .read-values .ensures)) jobOf _ (e1 .if1 .left)
+    ∙ passed (size-answer _ _ (e6 .before .read-values6 .ensures)) sizeFrom _ (e6 .if6 .left)
+    ∙ passed (end-answer _ _ (e5 .before .read-values5 .ensures)) endFrom _ (e5 .if5 .left)
+    ∙ passed (out-answer _ _ (e4 .before .read-values4 .ensures)) outFrom _ (e4 .if4 .left)
+    ∙ passed (node-answer _ _ (e3 .before .read-values3 .ensures)) nodeFrom _ (e3 .if3 .left)
+    ∙ passed (one-answer _ _ (e2 .before .read-values2 .ensures)) oneFrom _ (e2 .if2 .left)
+    ∙ passed (job-answer _ _ (e1 .before .read-values .ensures)) jobFrom _ (e1 .if1 .left)
 
 pub read-form-spec : {M : Type 1} → statement M
 read-form-spec =

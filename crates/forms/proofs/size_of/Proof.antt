@@ -1,6 +1,6 @@
 -- `forms::size_of` meets its contract by its definition.
 use mathlib.Core.Path.{refl}
-use Rattle.forms.specs.Form.{sizeOf}
+use Rattle.forms.specs.Form.{sizeFrom}
 use borrow.Author.Needs.{needs}
 use Rattle.forms.proofs.size_of.Statement.{statement}
 use Rattle.forms.proofs.size_of.Tie as tie
@@ -18,7 +18,7 @@ element-copy-out-t14 : tie.Need-element-copy-out-t14
 element-copy-out-t14 c = search needs
 
 returns : tie.Need-returns
-unfolding sizeOf
+unfolding sizeFrom
 returns c = refl
 
 pub size-of-spec : {M : Type 1} → statement M
