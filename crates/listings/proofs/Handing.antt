@@ -1,24 +1,26 @@
 -- What load hands over, by the step at which it stops or comes to its end. Assumes nothing.
 use Prim.Native.Nat.{ℕ, _+_, _*_, _≤_, _<_}
 use mathlib.Core.Path.{_≡_, refl, sym, ap, _∙_}
-use mathlib.Core.Bool.{true, false, not}
-use mathlib.Core.Option.{some, none}
+use mathlib.Core.Bool.{true, false}
+use mathlib.Core.Option.{none}
 use mathlib.Core.List.{List, [], _∷_}
 use lib.ListN.{length, drop}
-use borrow.Author.Tests.{lt-ltb, le-ltb, not-false}
+use borrow.Author.Tests.{lt-ltb, le-ltb}
 use Rattle.common.specs.declared.Refusal.{Refusal}
 use Rattle.common.specs.Limits.{maxOutputs}
 use Rattle.common.specs.Lists.{padded}
 use Rattle.common.specs.Outcome.{Outcome, done, refused, _then_, lowest, unless, refusalOf, numberOf, lineOf, valueOf, bufferOf}
 use Rattle.common.proofs.Lists.{true-or-false}
-use Rattle.common.proofs.Outcome.{unless-none, not-met}
-use Rattle.figures.specs.Line.{Lines, linesOf, lineEnd}
+use Rattle.figures.specs.Line.{linesOf}
 use Rattle.cells.specs.Record.{Whole, size}
 use Rattle.forms.specs.declared.SizeForm.{SizeForm}
 use Rattle.forms.specs.declared.Form.the-variants as form
-use Rattle.forms.specs.Form.{formIn, notDue}
+use Rattle.forms.specs.declared.LineRead.{LineRead}
+use Rattle.forms.specs.Form.{sizeFrom}
+use Rattle.forms.specs.Forms.{crossbarForm}
+use Rattle.forms.specs.Read.{lineRead, refusalIn}
 use Rattle.forms.proofs.Sorts.{kindOf, valuesIn, ofKind, asSize}
-use Rattle.forms.proofs.Lines.{due-size, no-size, lines-after}
+use Rattle.forms.proofs.LineReads.{size-kind, read-due, read-refused}
 use Rattle.listings.specs.declared.loading.Loaded.{Loaded}
 use Rattle.listings.specs.declared.loading.Outputs.{Outputs}
 use Rattle.listings.specs.declared.loading.Reached.{Reached}
@@ -27,7 +29,6 @@ use Rattle.listings.specs.Loading.{Listed, sized, sizeFault, loadOuts, l
 use Rattle.listings.specs.Loader.{loadedOf, Handed, listed, sizesIn, outputsOf, kept, CellsRead, CellsReached}
 use Rattle.listings.proofs.Kept.{kept-padded}
 use Rattle.listings.proofs.Loaded.{outs-told}
-use Rattle.listings.proofs.Steps.{line-here, unless-some}
 
 -- a refusal stands
 pub then-refused : {A B : Type 0} (o : Outcome A) (k l : ℕ) (f : A → Outcome B) → o ≡ refused k l → o then f ≡ refused k l
@@ -136,34 +137,22 @@ module _
       (t .stands, ap (λ (x : Listed). padded maxOutputs (x .outs)) (t .result) ∙ o .2, d .same ∙ o .1 ∙ ap done (sym (t .result)))
 
 -- the first line
-pub first-missing : (n : ℕ) (ls : Lines) → asSize (formIn ls n) ≡ none → loadFrom n ls ≡ refused 1 n
-unfolding loadFrom _then_
-first-missing n ls h = rw (no-size ls n h)
+module _ (text : List ℕ) (at n : ℕ) (r : LineRead) (read : r ≡ lineRead crossbarForm sizeFrom text at n) where
+  pub first-missing : asSize (r .form) ≡ none → (q : Refusal) → q ≡ refusalIn (r .form) → loadFrom n (linesOf (drop at text)) ≡ refused (q .number) (q .line)
+  unfolding loadFrom _then_
+  first-missing h q is = let d = read-refused size-kind text at n r read h in rw (is, d .1, d .0)
 
-pub size-right : (s : SizeForm) → sizeFault (listed s [] []) ≡ 0 → sizesIn s ≡ true
-unfolding sizeFault
-size-right s h = not-false _ (not-met 1 (not (sizesIn s)) [] h)
+  module _ (s : SizeForm) (e : r .form ≡ form.Size s) where
+    pub step :
+        loadFrom n (linesOf (drop at text))
+        ≡ unless (sizeFault (listed s [] [])) n (loadCells (listed s [] []) (n + 1) (linesOf (drop (r .next) text)))
+    unfolding loadFrom _then_ sized ofKind kindOf valuesIn
+    step = rw (read-due size-kind text at n r read (s .rows ∷ s .columns ∷ s .switches ∷ s .outputs ∷ []) (ap (λ f. asSize f) e) .0)
 
-module _ (text : List ℕ) (at n : ℕ) (s : SizeForm) (e : formIn (linesOf (drop at text)) n ≡ form.Size s) where
-  named : asSize (formIn (linesOf (drop at text)) n) ≡ some (s .rows ∷ s .columns ∷ s .switches ∷ s .outputs ∷ [])
-  unfolding ofKind kindOf valuesIn
-  named = ap (λ f. asSize f) e
+    pub first-fault : sizesIn s ≡ false → loadFrom n (linesOf (drop at text)) ≡ refused 2 n
+    unfolding sizeFault lowest unless
+    first-fault h = step ∙ rw h
 
-  -- a line feed ends it
-  pub first-inside : lineEnd text at < length text
-  unfolding notDue ofKind kindOf
-  first-inside = line-here (λ f. asSize f) text at n (s .rows ∷ s .columns ∷ s .switches ∷ s .outputs ∷ []) refl named
-
-  step :
-      loadFrom n (linesOf (drop at text))
-      ≡ unless (sizeFault (listed s [] [])) n (loadCells (listed s [] []) (n + 1) (linesOf (drop (lineEnd text at + 1) text)))
-  unfolding loadFrom _then_ sized
-  step = rw (due-size (linesOf (drop at text)) n (s .rows ∷ s .columns ∷ s .switches ∷ s .outputs ∷ []) named, lines-after text at first-inside)
-
-  pub first-fault : (k : ℕ) → k ≡ sizeFault (listed s [] []) → (k ≡ 0 → ⊥) → loadFrom n (linesOf (drop at text)) ≡ refused k n
-  first-fault k is h = step ∙ rw (← is) (unless-some k n _ h)
-
-  pub first-right :
-      sizeFault (listed s [] []) ≡ 0
-      → loadFrom n (linesOf (drop at text)) ≡ loadCells (listed s [] []) (n + 1) (linesOf (drop (lineEnd text at + 1) text))
-  first-right h = step ∙ unless-none (sizeFault (listed s [] [])) n _ h
+    pub first-right : sizesIn s ≡ true → loadFrom n (linesOf (drop at text)) ≡ loadCells (listed s [] []) (n + 1) (linesOf (drop (r .next) text))
+    unfolding sizeFault lowest unless
+    first-right h = step ∙ rw h

@@ -1,7 +1,7 @@
 -- The reader of cell lines between two lines: what it has read so far, and how a line takes it further. Assumes nothing.
 use Prim.Native.Nat.{ℕ, suc, _+_, _*_, _≤_, _<_}
 use mathlib.Core.Path.{_≡_, refl, ap, _∙_}
-use mathlib.Core.Option.{some, none}
+use mathlib.Core.Option.{none}
 use mathlib.Core.List.{List, [], _∷_, _++_}
 use native.Mathlib.Omega.{arith}
 use native.Mathlib.Nat.{mul-le-mul-right}
@@ -10,21 +10,21 @@ use Rattle.common.specs.Limits.{maxRows, maxColumns, maxSwitches}
 use Rattle.common.specs.Lists.{zeros, padded}
 use Rattle.common.specs.Outcome.{unless}
 use Rattle.common.proofs.Outcome.{unless-none}
-use Rattle.figures.specs.Line.{linesOf, lineEnd}
+use Rattle.figures.specs.Line.{linesOf}
 use Rattle.cells.specs.Code.{codeOf}
 use Rattle.forms.specs.declared.SizeForm.{SizeForm}
 use Rattle.forms.specs.declared.CellForm.{CellForm}
 use Rattle.forms.specs.declared.Form.the-variants as form
-use Rattle.forms.specs.Form.{formIn, notDue}
+use Rattle.forms.specs.declared.LineRead.{LineRead}
+use Rattle.forms.specs.Read.{cellRead}
 use Rattle.forms.proofs.Sorts.{asCell}
-use Rattle.forms.proofs.Lines.{lines-after}
 use Rattle.listings.specs.declared.loading.Reached.the-variants as reached
 use Rattle.listings.specs.Loading.{cellFault, withCell, loadCells}
 use Rattle.listings.specs.Loader.{listed, placedBy, kept, CellsReached}
 use Rattle.listings.proofs.Cells.{below-code}
 use Rattle.listings.proofs.Loaded.{cell-facts, length-with}
 use Rattle.listings.proofs.Kept.{length-kept, kept-none, kept-set}
-use Rattle.listings.proofs.Steps.{line-here, unless-some, cell-line, other-line, Ranged}
+use Rattle.listings.proofs.Steps.{unless-some, cell-line, other-line, Ranged}
 
 -- cell lines from the position at, line n, on, with the next line at the position next, line m, and the cells before it in the first
 -- count places
@@ -78,66 +78,58 @@ module _ {text : List ℕ} {s : SizeForm} {at n room : ℕ} {cells : List ℕ} {
   pub held : length cells ≡ room
   held = ap length (g .holds) ∙ length-kept room (g .codes)
 
-  -- a line that is no cell line
-  pub going-other : asCell (formIn (linesOf (drop next text)) m) ≡ none → CellsReached text s at n cells room (reached.Line next m)
-  unfolding CellsReached
-  going-other e =
-      record {
-        codes = g .codes;
-        same = g .same ∙ other-line (listed s (g .codes) []) m (linesOf (drop next text)) (z .outputs-least) e;
-        holds = g .holds;
-        short = g .short;
-        lines = g .lines;
-      }
-
-  module _ (f : CellForm) (e : formIn (linesOf (drop next text)) m ≡ form.Cell f) where
-    named : asCell (formIn (linesOf (drop next text)) m) ≡ some (placedBy f)
-    unfolding asCell
-    named = ap asCell e
-
-    -- a line feed ends it
-    pub going-inside : lineEnd text next < length text
-    unfolding asCell notDue
-    going-inside = line-here asCell text next m (placedBy f) refl named
-
-    step :
-        loadCells (listed s [] []) n (linesOf (drop at text))
-        ≡ unless (cellFault (listed s (g .codes) []) (placedBy f)) m
-        (loadCells (withCell (listed s (g .codes) []) (placedBy f)) (m + 1) (linesOf (drop (lineEnd text next + 1) text)))
-    step =
-        g .same
-        ∙ rw (← (lines-after text next going-inside))
-        (cell-line (listed s (g .codes) []) m (linesOf (drop next text)) (placedBy f) (z .switches-most) named)
-
-    -- a cell line with a fault
-    pub going-fault :
-        (cells' : List ℕ) (k : ℕ)
-        → k ≡ cellFault (listed s (g .codes) []) (placedBy f)
-        → (k ≡ 0 → ⊥)
-        → CellsReached text s at n cells' room (reached.Refused (record { number = k; line = m }))
+  module _ (r : LineRead) (read : r ≡ cellRead text next m) where
+    -- a line that is no cell line
+    pub going-other : asCell (r .form) ≡ none → CellsReached text s at n cells room (reached.Line next m)
     unfolding CellsReached
-    going-fault cells' k is h = step ∙ rw (← is) (unless-some k m _ h)
-
-    -- a cell line without one
-    pub going-more :
-        (p code : ℕ) (stored : List ℕ)
-        → cellFault (listed s (g .codes) []) (placedBy f) ≡ 0
-        → p ≡ f .row * s .columns + f .column
-        → code ≡ codeOf (f .cell)
-        → stored ≡ set cells p code
-        → Going text s at n room stored (lineEnd text next + 1) (m + 1) (p + 1)
-    unfolding withCell
-    going-more p code stored h place coded is =
-        let x = listed s (g .codes) [] in
-        let w = right s (g .codes) count f z (g .counted) h in
-        let q = f .row * s .columns + f .column in
-        let after : length (g .codes) ≤ q = omega (arith, g .counted, w .later) in
-        let full : length (padded q (g .codes) ++ (codeOf (f .cell) ∷ [])) ≡ suc q = length-with x (placedBy f) after in
+    going-other e =
         record {
-          codes = padded q (g .codes) ++ (codeOf (f .cell) ∷ []);
-          same = step ∙ unless-none (cellFault x (placedBy f)) m _ h;
-          counted = rw (full, place) (omega arith);
-          short = rw full (w .inside);
-          lines = rw full (omega (arith, g .lines));
-          holds = is ∙ rw (place, coded, g .holds) (kept-set room (g .codes) q (codeOf (f .cell)) after);
+          codes = g .codes;
+          same = g .same ∙ other-line (listed s (g .codes) []) text next m r read (z .outputs-least) e;
+          holds = g .holds;
+          short = g .short;
+          lines = g .lines;
         }
+
+    module _ (f : CellForm) (e : r .form ≡ form.Cell f) where
+      pub going-inside : (next < r .next) × (r .next ≤ length text)
+      going-inside = let c = cell-line (listed s (g .codes) []) text next m r read f e (z .switches-most) in (c .1, c .2)
+
+      step :
+          loadCells (listed s [] []) n (linesOf (drop at text))
+          ≡ unless (cellFault (listed s (g .codes) []) (placedBy f)) m
+          (loadCells (withCell (listed s (g .codes) []) (placedBy f)) (m + 1) (linesOf (drop (r .next) text)))
+      step = g .same ∙ cell-line (listed s (g .codes) []) text next m r read f e (z .switches-most) .0
+
+      -- a cell line with a fault
+      pub going-fault :
+          (cells' : List ℕ) (k : ℕ)
+          → k ≡ cellFault (listed s (g .codes) []) (placedBy f)
+          → (k ≡ 0 → ⊥)
+          → CellsReached text s at n cells' room (reached.Refused (record { number = k; line = m }))
+      unfolding CellsReached
+      going-fault cells' k is h = step ∙ rw (← is) (unless-some k m _ h)
+
+      -- a cell line without one
+      pub going-more :
+          (p code : ℕ) (stored : List ℕ)
+          → cellFault (listed s (g .codes) []) (placedBy f) ≡ 0
+          → p ≡ f .row * s .columns + f .column
+          → code ≡ codeOf (f .cell)
+          → stored ≡ set cells p code
+          → Going text s at n room stored (r .next) (m + 1) (p + 1)
+      unfolding withCell
+      going-more p code stored h place coded is =
+          let x = listed s (g .codes) [] in
+          let w = right s (g .codes) count f z (g .counted) h in
+          let q = f .row * s .columns + f .column in
+          let after : length (g .codes) ≤ q = omega (arith, g .counted, w .later) in
+          let full : length (padded q (g .codes) ++ (codeOf (f .cell) ∷ [])) ≡ suc q = length-with x (placedBy f) after in
+          record {
+            codes = padded q (g .codes) ++ (codeOf (f .cell) ∷ []);
+            same = step ∙ unless-none (cellFault x (placedBy f)) m _ h;
+            counted = rw (full, place) (omega arith);
+            short = rw full (w .inside);
+            lines = rw full (omega (arith, g .lines));
+            holds = is ∙ rw (place, coded, g .holds) (kept-set room (g .codes) q (codeOf (f .cell)) after);
+          }

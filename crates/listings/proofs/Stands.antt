@@ -1,27 +1,32 @@
 -- The reader of output lines between two lines: the output rows so far, and how a line takes it further. Assumes nothing.
 use Prim.Native.Nat.{ℕ, suc, _+_, _-_, _≤_, _<_}
 use mathlib.Core.Path.{_≡_, refl, sym, ap, _∙_}
-use mathlib.Core.Option.{some, none}
+use mathlib.Core.Option.{none}
 use mathlib.Core.List.{List, [], _∷_, _++_}
 use native.Mathlib.Omega.{arith}
 use lib.ListN.{length, drop, set, length-append}
 use borrow.Author.Tests.{ltb-true}
+use Rattle.common.specs.declared.Refusal.{Refusal}
 use Rattle.common.specs.Limits.{maxRows, maxOutputs}
 use Rattle.common.specs.Lists.{zeros, padded}
-use Rattle.common.specs.Outcome.{refused, _then_, unless}
+use Rattle.common.specs.Outcome.{done, refused, _then_, unless}
 use Rattle.common.proofs.Outcome.{unless-none}
-use Rattle.figures.specs.Line.{Lines, linesOf, afterFirst, lineEnd}
+use Rattle.figures.specs.Line.{linesOf}
 use Rattle.forms.specs.declared.SizeForm.{SizeForm}
 use Rattle.forms.specs.declared.OutForm.{OutForm}
 use Rattle.forms.specs.declared.Form.the-variants as form
-use Rattle.forms.specs.Form.{formIn, notDue}
+use Rattle.forms.specs.declared.LineRead.{LineRead}
+use Rattle.forms.specs.Form.{outFrom}
+use Rattle.forms.specs.Forms.{outForm}
+use Rattle.forms.specs.Due.{due}
+use Rattle.forms.specs.Read.{lineRead, refusalIn}
 use Rattle.forms.proofs.Sorts.{kindOf, valuesIn, ofKind, asOut}
-use Rattle.forms.proofs.Lines.{due-out, no-out, lines-after}
+use Rattle.forms.proofs.LineReads.{out-kind, read-due, read-refused}
 use Rattle.listings.specs.Loading.{Listed, outRowFault, withOutRow, loadEnd, loadOuts}
 use Rattle.listings.specs.Loader.{listed}
 use Rattle.listings.proofs.Loaded.{stand-facts}
 use Rattle.listings.proofs.Kept.{padded-set}
-use Rattle.listings.proofs.Steps.{line-here, unless-some, Ranged}
+use Rattle.listings.proofs.Steps.{unless-some, Ranged}
 
 -- output lines from the position at, line n, on, with the line of output j at the position next, line m
 pub record Standing (text : List ℕ) (s : SizeForm) (at n : ℕ) (outs : List ℕ) (next m j : ℕ) : Type 0 where
@@ -48,18 +53,6 @@ standing-start text s at n =
       holds = refl;
     }
 
--- the line of an output due, by its form
-missing-step : (k : ℕ) (x : Listed) (n : ℕ) (ls : Lines) → asOut (formIn ls n) ≡ none → loadOuts (suc k) x n ls ≡ refused 1 n
-unfolding loadOuts _then_
-missing-step k x n ls h = rw (no-out ls n h)
-
-stand-step :
-    (k : ℕ) (x : Listed) (n : ℕ) (ls : Lines) (j r : ℕ)
-    → asOut (formIn ls n) ≡ some (j ∷ r ∷ [])
-    → loadOuts (suc k) x n ls ≡ unless (outRowFault x j r) n (loadOuts k (withOutRow x r) (n + 1) (afterFirst ls))
-unfolding loadOuts _then_
-stand-step k x n ls j r h = rw (due-out ls n (j ∷ r ∷ []) h)
-
 module _ {text : List ℕ} {s : SizeForm} {at n : ℕ} {outs : List ℕ} {next m j : ℕ} (g : Standing text s at n outs next m j) where
   -- after the last output line
   pub standing-end :
@@ -83,63 +76,59 @@ module _ {text : List ℕ} {s : SizeForm} {at n : ℕ} {outs : List ℕ} {next m
     due-here codes =
         g .same codes ∙ ap (λ (k : ℕ). loadOuts k (listed s codes (g .stands)) m (linesOf (drop next text))) one-more
 
-    -- a line that is not an output's
-    pub standing-missing :
-        asOut (formIn (linesOf (drop next text)) m) ≡ none
-        → (codes : List ℕ)
-        → loadOuts (s .outputs) (listed s codes []) n (linesOf (drop at text)) ≡ refused 1 m
-    standing-missing e codes =
-        due-here codes ∙ missing-step (s .outputs - (j + 1)) (listed s codes (g .stands)) m (linesOf (drop next text)) e
-
-    module _ (f : OutForm) (e : formIn (linesOf (drop next text)) m ≡ form.Out f) where
-      named : asOut (formIn (linesOf (drop next text)) m) ≡ some (f .number ∷ f .target ∷ [])
-      unfolding ofKind kindOf valuesIn
-      named = ap (λ g. asOut g) e
-
-      -- a line feed ends it
-      pub standing-inside : lineEnd text next < length text
-      unfolding notDue ofKind kindOf
-      standing-inside = line-here (λ g. asOut g) text next m (f .number ∷ f .target ∷ []) refl named
-
-      step :
-          (codes : List ℕ)
-          → loadOuts (s .outputs) (listed s codes []) n (linesOf (drop at text))
-          ≡ unless (outRowFault (listed s codes (g .stands)) (f .number) (f .target)) m
-          (loadOuts (s .outputs - (j + 1)) (withOutRow (listed s codes (g .stands)) (f .target)) (m + 1)
-          (linesOf (drop (lineEnd text next + 1) text)))
-      step codes =
-          due-here codes
-          ∙ rw (← (lines-after text next standing-inside))
-          (stand-step (s .outputs - (j + 1)) (listed s codes (g .stands)) m (linesOf (drop next text)) (f .number) (f .target) named)
-
-      -- an output line with a fault
-      pub standing-fault :
-          (k : ℕ)
-          → ((codes stands : List ℕ) → length stands ≡ j → k ≡ outRowFault (listed s codes stands) (f .number) (f .target))
-          → (k ≡ 0 → ⊥)
+    module _ (r : LineRead) (read : r ≡ lineRead outForm outFrom text next m) where
+      -- a line that is not an output's
+      pub standing-missing :
+          asOut (r .form) ≡ none
+          → (q : Refusal)
+          → q ≡ refusalIn (r .form)
           → (codes : List ℕ)
-          → loadOuts (s .outputs) (listed s codes []) n (linesOf (drop at text)) ≡ refused k m
-      standing-fault k is bad codes = step codes ∙ rw (← (is codes (g .stands) (g .counted))) (unless-some k m _ bad)
+          → loadOuts (s .outputs) (listed s codes []) n (linesOf (drop at text)) ≡ refused (q .number) (q .line)
+      unfolding loadOuts _then_
+      standing-missing e q is codes =
+          let d = read-refused out-kind text next m r read e in due-here codes ∙ rw (is, d .1, d .0)
 
-      -- an output line without one
-      module _
-          (k : ℕ) (z : Ranged s)
-          (is : (codes stands : List ℕ) → length stands ≡ j → k ≡ outRowFault (listed s codes stands) (f .number) (f .target))
-          (none : k ≡ 0) where
-        pub target-small : f .target < maxRows
-        target-small =
-            let w = stand-facts (listed s [] (g .stands)) (f .number) (f .target) (sym (is [] (g .stands) (g .counted)) ∙ none) in
-            omega (arith, ltb-true (f .target) (s .rows) (w .1))
+      module _ (f : OutForm) (e : r .form ≡ form.Out f) where
+        due-out : (due outForm m (linesOf (drop next text)) ≡ done (record { vals = f .number ∷ f .target ∷ []; later = linesOf (drop (r .next) text) })) × (next < r .next) × (r .next ≤ length text)
+        unfolding ofKind kindOf valuesIn
+        due-out = read-due out-kind text next m r read (f .number ∷ f .target ∷ []) (ap (λ g. asOut g) e)
 
-        pub standing-more : Standing text s at n (set outs j (f .target)) (lineEnd text next + 1) (m + 1) (j + 1)
-        unfolding withOutRow maxOutputs
-        standing-more =
-            let room : j < maxOutputs = omega arith in
-            record {
-              stands = g .stands ++ (f .target ∷ []);
-              same = λ codes. step codes ∙ unless-none _ m _ (sym (is codes (g .stands) (g .counted)) ∙ none);
-              counted = simp length-append (omega (arith, g .counted));
-              most = omega arith;
-              lines = omega (arith, g .lines);
-              holds = sym (rw (← (g .holds)) (padded-set maxOutputs (g .stands) j (f .target) (g .counted) room));
-            }
+        step :
+            (codes : List ℕ)
+            → loadOuts (s .outputs) (listed s codes []) n (linesOf (drop at text))
+            ≡ unless (outRowFault (listed s codes (g .stands)) (f .number) (f .target)) m
+            (loadOuts (s .outputs - (j + 1)) (withOutRow (listed s codes (g .stands)) (f .target)) (m + 1) (linesOf (drop (r .next) text)))
+        unfolding loadOuts _then_
+        step codes = due-here codes ∙ rw (due-out .0)
+
+        -- an output line with a fault
+        pub standing-fault :
+            (k : ℕ)
+            → ((codes stands : List ℕ) → length stands ≡ j → k ≡ outRowFault (listed s codes stands) (f .number) (f .target))
+            → (k ≡ 0 → ⊥)
+            → (codes : List ℕ)
+            → loadOuts (s .outputs) (listed s codes []) n (linesOf (drop at text)) ≡ refused k m
+        standing-fault k is bad codes = step codes ∙ rw (← (is codes (g .stands) (g .counted))) (unless-some k m _ bad)
+
+        -- an output line without one
+        module _
+            (k : ℕ) (z : Ranged s)
+            (is : (codes stands : List ℕ) → length stands ≡ j → k ≡ outRowFault (listed s codes stands) (f .number) (f .target))
+            (none : k ≡ 0) where
+          pub target-small : f .target < maxRows
+          target-small =
+              let w = stand-facts (listed s [] (g .stands)) (f .number) (f .target) (sym (is [] (g .stands) (g .counted)) ∙ none) in
+              omega (arith, ltb-true (f .target) (s .rows) (w .1))
+
+          pub standing-more : Standing text s at n (set outs j (f .target)) (r .next) (m + 1) (j + 1)
+          unfolding withOutRow maxOutputs
+          standing-more =
+              let room : j < maxOutputs = omega arith in
+              record {
+                stands = g .stands ++ (f .target ∷ []);
+                same = λ codes. step codes ∙ unless-none _ m _ (sym (is codes (g .stands) (g .counted)) ∙ none);
+                counted = simp length-append (omega (arith, g .counted));
+                most = omega arith;
+                lines = omega (arith, g .lines);
+                holds = sym (rw (← (g .holds)) (padded-set maxOutputs (g .stands) j (f .target) (g .counted) room));
+              }

@@ -11,39 +11,28 @@ use native.Mathlib.Nat.{mul-le-mul-right, mul-le-mul-left}
 use lib.ListN.{length, drop, length-drop, drop-of-length-le}
 use lib.Dec.{eqb, ltb, leb}
 use borrow.Author.Tests.{lt-ltb, le-ltb, ltb-true, leb-false, le-leb, eq-eqb, ne-eqb}
+use Rattle.common.specs.declared.Refusal.{Refusal}
 use Rattle.common.specs.Limits.{maxRows, maxColumns, maxSwitches}
 use Rattle.common.specs.Outcome.{Outcome, done, refused, _then_, _when_, lowest, unless}
 use Rattle.common.proofs.Lists.{by-test, below-or-not}
-use Rattle.figures.specs.Line.{Lines, left, _⏎_, onto, linesOf, follows, afterFirst, lineEnd}
-use Rattle.figures.proofs.Ends.{line-left}
+use Rattle.figures.specs.Line.{Lines, left, _⏎_, onto, linesOf, follows, lineEnd}
+use Rattle.figures.proofs.Ends.{not-before}
 use Rattle.cells.specs.declared.Cell.{Cell}
 use Rattle.cells.specs.declared.Cell.the-variants.{Off, On, Yes, No}
-use Rattle.forms.specs.declared.Form.{Form}
 use Rattle.forms.specs.declared.SizeForm.{SizeForm}
-use Rattle.forms.specs.Form.{Placed, placed, switchOf, notDue, formIn}
-use Rattle.forms.specs.Read.{cappedCell}
-use Rattle.forms.proofs.Sorts.{capped, kindOf, ofKind, asEnd, asCell}
+use Rattle.forms.specs.declared.CellForm.{CellForm}
+use Rattle.forms.specs.declared.LineRead.{LineRead}
+use Rattle.forms.specs.declared.Form.the-variants as form
+use Rattle.forms.specs.Form.{Placed, placed, switchOf, notDue, endFrom}
+use Rattle.forms.specs.Forms.{endForm}
+use Rattle.forms.specs.Read.{cappedCell, placedIn, cellOf, cellRead, lineRead, refusalIn}
 use Rattle.forms.specs.Due.{due}
-use Rattle.forms.proofs.Cases.{as-cell}
-use Rattle.forms.proofs.Lines.{due-end, no-end, lines-after}
+use Rattle.forms.proofs.Sorts.{capped, asEnd, asCell}
+use Rattle.forms.proofs.LineReads.{ended, after-end, end-kind, read-due, read-refused}
 use Rattle.listings.specs.Loading.{Listed, switchBelow, cellFault, withCell, outRowFault, loadEnd, loadOuts, loadCells}
-use Rattle.listings.specs.Loader.{sizesIn}
+use Rattle.listings.specs.Loader.{sizesIn, placedBy}
 use Rattle.listings.proofs.Printed.{Sizes, in-range}
 use Rattle.listings.proofs.Loaded.{cell-facts}
-
--- where the form is not that of a missing line, a line feed ends the line
-pub line-here :
-    {A : Type 0} (take : Form → Option A) (s : List ℕ) (at n : ℕ) (a : A)
-    → take (notDue n) ≡ none
-    → take (formIn (linesOf (drop at s)) n) ≡ some a
-    → lineEnd s at < length s
-unfolding formIn
-line-here take s at n a e h =
-    ⊎-elim (λ (inside : lineEnd s at < length s). inside)
-    (λ (past : length s ≤ lineEnd s at).
-    let d : take (notDue n) ≡ some a = rw (line-left s at past) at h in
-    absurd (let z : _≡_ {A = ℕ} 0 1 = cc in omega arith))
-    (below-or-not (lineEnd s at) (length s))
 
 -- a number stops, and what follows matters only without one
 pub unless-some : {A : Type 0} (k n : ℕ) (o : Outcome A) → (k ≡ 0 → ⊥) → unless k n o ≡ refused k n
@@ -93,57 +82,75 @@ capped-right x p h f =
     let names = cell-facts x (capped p) f .switch-in in
     unfold capped in ap (λ (c : Cell). record { row = p .row; column = p .column; cell = c }) (capped-exact (x .switches) (p .cell) h names)
 
--- a cell line, by its form
-placed-step :
-    (x : Listed) (n : ℕ) (l : List ℕ) (ls : Lines) (o : Option Placed) (q : Placed)
-    → x .switches ≤ maxSwitches
-    → placed l ≡ o
-    → Option·map capped o ≡ some q
-    → loadCells x n (l ⏎ ls) ≡ unless (cellFault x q) n (loadCells (withCell x q) (n + 1) ls)
-unfolding loadCells
-placed-step x n l ls none q h e m = absurd (let z : _≡_ {A = ℕ} 0 1 = cc in omega arith)
-placed-step x n l ls (some p) q h e m =
-    let same : capped p ≡ q = cc in
-    let k = cellFault x q in
-    let fault : cellFault x p ≡ k = sym (capped-fault x p h) ∙ ap (cellFault x) same in
-    rw (e, loadCells) (rw fault
-    (unless-same k n (loadCells (withCell x p) (n + 1) ls) (loadCells (withCell x q) (n + 1) ls)
-    (λ (z : k ≡ 0).
-    let exact : capped p ≡ p = capped-right x p h (ap (cellFault x) same ∙ z) in
-    ap (λ (r : Placed). loadCells (withCell x r) (n + 1) ls) (sym exact ∙ same))))
-
-pub cell-line :
-    (x : Listed) (n : ℕ) (ls : Lines) (q : Placed)
-    → x .switches ≤ maxSwitches
-    → asCell (formIn ls n) ≡ some q
-    → loadCells x n ls ≡ unless (cellFault x q) n (loadCells (withCell x q) (n + 1) (afterFirst ls))
-unfolding formIn afterFirst asCell notDue
-cell-line x n (left s) q h e = absurd (let z : _≡_ {A = ℕ} 0 1 = cc in omega arith)
-cell-line x n (l ⏎ ls) q h e = placed-step x n l ls (placed l) q h refl (sym (as-cell l n) ∙ e)
-
--- another line, or none: the outputs begin
-other-step :
-    (x : Listed) (n : ℕ) (l : List ℕ) (ls : Lines) (o : Option Placed)
-    → placed l ≡ o
-    → Option·map capped o ≡ none
-    → loadCells x n (l ⏎ ls) ≡ loadOuts (x .outputs) x n (l ⏎ ls)
-unfolding loadCells
-other-step x n l ls none e m = rw (e, loadCells)
-other-step x n l ls (some p) e m = absurd (let z : _≡_ {A = ℕ} 0 1 = cc in omega arith)
-
 missing-out : (k : ℕ) (x : Listed) (n : ℕ) (s : List ℕ) → 1 ≤ k → refused 1 n ≡ loadOuts k x n (left s)
 unfolding loadOuts _then_ due
 missing-out zero x n s h = absurd (omega arith)
 missing-out (suc k) x n s h = refl
 
-pub other-line :
-    (x : Listed) (n : ℕ) (ls : Lines)
-    → 1 ≤ x .outputs
-    → asCell (formIn ls n) ≡ none
-    → loadCells x n ls ≡ loadOuts (x .outputs) x n ls
-unfolding formIn loadCells
-other-line x n (left s) h e = missing-out (x .outputs) x n s h
-other-line x n (l ⏎ ls) h e = other-step x n l ls (placed l) refl (sym (as-cell l n) ∙ e)
+-- a line read as a cell line
+module _ (x : Listed) (s : List ℕ) (at n : ℕ) (r : LineRead) (e : r ≡ cellRead s at n) where
+  line-form : (ls : Lines) (o : Option Placed) → linesOf (drop at s) ≡ ls → placedIn ls ≡ o → r ≡ cellOf (lineEnd s at + 1) n o
+  unfolding cellRead
+  line-form ls o d p = e ∙ rw (d, p)
+
+  -- it is one
+  module _ (f : CellForm) (is : r .form ≡ form.Cell f) (most : x .switches ≤ maxSwitches) where
+    placed-step :
+        (l : List ℕ) (ls : Lines) (o : Option Placed)
+        → linesOf (drop at s) ≡ l ⏎ ls
+        → placed l ≡ o
+        → (loadCells x n (l ⏎ ls) ≡ unless (cellFault x (placedBy f)) n (loadCells (withCell x (placedBy f)) (n + 1) ls)) × (r .next ≡ lineEnd s at + 1)
+    unfolding placedIn cellOf notDue loadCells capped
+    placed-step l ls none d p =
+        let q = ap (λ y. y .form) (line-form (l ⏎ ls) none d p) in
+        absurd (let z : _≡_ {A = ℕ} 0 1 = cc in omega arith)
+    placed-step l ls (some p) d h =
+        let q = line-form (l ⏎ ls) (some p) d h in
+        let same : capped p ≡ placedBy f = ap (λ (g : CellForm). placedBy g) (let w = ap (λ y. y .form) q in (cc)) in
+        let k = cellFault x (placedBy f) in
+        let fault : cellFault x p ≡ k = sym (capped-fault x p most) ∙ ap (cellFault x) same in (
+          rw (h, loadCells) (rw fault
+              (unless-same k n (loadCells (withCell x p) (n + 1) ls) (loadCells (withCell x (placedBy f)) (n + 1) ls)
+              (λ (z : k ≡ 0).
+              let exact : capped p ≡ p = capped-right x p most (ap (cellFault x) same ∙ z) in
+              ap (λ (v : Placed). loadCells (withCell x v) (n + 1) ls) (sym exact ∙ same)))),
+          ap (λ y. y .next) q,
+        )
+
+    by-lines :
+        (ls : Lines)
+        → linesOf (drop at s) ≡ ls
+        → (loadCells x n (linesOf (drop at s)) ≡ unless (cellFault x (placedBy f)) n (loadCells (withCell x (placedBy f)) (n + 1) (linesOf (drop (r .next) s)))) × (at < r .next) × (r .next ≤ length s)
+    unfolding placedIn cellOf notDue
+    by-lines (left t) d =
+        let q = ap (λ y. y .form) (line-form (left t) none d refl) in
+        absurd (let z : _≡_ {A = ℕ} 0 1 = cc in omega arith)
+    by-lines (l ⏎ ls) d =
+        let p = placed-step l ls (placed l) d refl in
+        let i = ended s at l ls d in
+        let g = not-before s at in
+        (ap (loadCells x n) d ∙ p .0 ∙ rw (p .1, after-end s at l ls d), omega arith, omega arith)
+
+    pub cell-line :
+        (loadCells x n (linesOf (drop at s)) ≡ unless (cellFault x (placedBy f)) n (loadCells (withCell x (placedBy f)) (n + 1) (linesOf (drop (r .next) s)))) × (at < r .next) × (r .next ≤ length s)
+    cell-line = by-lines (linesOf (drop at s)) refl
+
+  -- it is none: the outputs begin
+  module _ (least : 1 ≤ x .outputs) (no : asCell (r .form) ≡ none) where
+    other-step : (l : List ℕ) (ls : Lines) (o : Option Placed) → linesOf (drop at s) ≡ l ⏎ ls → placed l ≡ o → loadCells x n (l ⏎ ls) ≡ loadOuts (x .outputs) x n (l ⏎ ls)
+    unfolding placedIn cellOf asCell loadCells
+    other-step l ls none d p = rw (p, loadCells)
+    other-step l ls (some p) d h =
+        let q = ap (λ y. asCell (y .form)) (line-form (l ⏎ ls) (some p) d h) in
+        absurd (let z : _≡_ {A = ℕ} 0 1 = cc in omega arith)
+
+    other-by : (ls : Lines) → linesOf (drop at s) ≡ ls → loadCells x n ls ≡ loadOuts (x .outputs) x n ls
+    unfolding loadCells
+    other-by (left t) d = missing-out (x .outputs) x n t least
+    other-by (l ⏎ ls) d = other-step l ls (placed l) d refl
+
+    pub other-line : loadCells x n (linesOf (drop at s)) ≡ loadOuts (x .outputs) x n (linesOf (drop at s))
+    other-line = other-by (linesOf (drop at s)) refl
 
 -- the sizes of a first line in range, as plain facts
 abbrev pub Ranged : SizeForm → Type 0
@@ -210,11 +217,6 @@ pub stand-in : (x : Listed) (j r : ℕ) → j ≡ length (x .outs) → r < x .ro
 unfolding outRowFault lowest
 stand-in x j r e h = rw (eq-eqb j (length (x .outs)) e, lt-ltb r (x .rows) h)
 
--- the last line, by its form
-pub end-missing : (x : Listed) (n : ℕ) (ls : Lines) → asEnd (formIn ls n) ≡ none → loadEnd x n ls ≡ refused 1 n
-unfolding loadEnd _then_
-end-missing x n ls h = rw (no-end ls n h)
-
 follows-onto : (b : ℕ) (ls : Lines) → follows (onto b ls) ≡ true
 unfolding onto follows
 follows-onto b (left s) = refl
@@ -230,29 +232,23 @@ follows-some : (s : List ℕ) → 0 < length s → follows (linesOf s) ≡ true
 follows-some [] h = absurd (omega arith)
 follows-some (b ∷ s) h = follows-byte b s
 
-module _ (s : List ℕ) (at n : ℕ) (h : asEnd (formIn (linesOf (drop at s)) n) ≡ some []) where
-  pub end-inside : lineEnd s at < length s
-  unfolding notDue ofKind kindOf
-  end-inside = line-here (λ f. asEnd f) s at n [] refl h
-
-  end-step :
-      (x : Listed)
-      → loadEnd x n (linesOf (drop at s))
-      ≡ unless (lowest ((10 when follows (linesOf (drop (lineEnd s at + 1) s))) ∷ [])) (n + 1) (done x)
+-- the last line, by its form
+module _ (x : Listed) (s : List ℕ) (at n : ℕ) (r : LineRead) (e : r ≡ lineRead endForm endFrom s at n) where
+  pub end-missing : asEnd (r .form) ≡ none → (q : Refusal) → q ≡ refusalIn (r .form) → loadEnd x n (linesOf (drop at s)) ≡ refused (q .number) (q .line)
   unfolding loadEnd _then_
-  end-step x = rw (due-end (linesOf (drop at s)) n [] h, lines-after s at end-inside)
+  end-missing h q is = let d = read-refused end-kind s at n r e h in rw (is, d .1, d .0)
 
-  pub end-more : (x : Listed) → lineEnd s at + 1 < length s → loadEnd x n (linesOf (drop at s)) ≡ refused 10 (n + 1)
-  unfolding lowest unless
-  end-more x more =
-      let some-left : 0 < length (drop (lineEnd s at + 1) s) = rw length-drop (omega arith) in
-      end-step x ∙ rw (follows-some (drop (lineEnd s at + 1) s) some-left)
+  module _ (h : asEnd (r .form) ≡ some []) where
+    end-step : loadEnd x n (linesOf (drop at s)) ≡ unless (lowest ((10 when follows (linesOf (drop (r .next) s))) ∷ [])) (n + 1) (done x)
+    unfolding loadEnd _then_
+    end-step = rw (read-due end-kind s at n r e [] h .0)
 
-  pub end-last : (x : Listed) → length s ≤ lineEnd s at + 1 → loadEnd x n (linesOf (drop at s)) ≡ done x
-  unfolding lowest unless linesOf follows
-  end-last x last = end-step x ∙ rw (drop-of-length-le s last)
+    pub end-more : r .next < length s → loadEnd x n (linesOf (drop at s)) ≡ refused 10 (n + 1)
+    unfolding lowest unless
+    end-more more =
+        let some-left : 0 < length (drop (r .next) s) = rw length-drop (omega arith) in
+        end-step ∙ rw (follows-some (drop (r .next) s) some-left)
 
--- a line does not end before it begins
-pub end-forward : (s : List ℕ) (at : ℕ) → at ≤ lineEnd s at
-unfolding lineEnd
-end-forward s at = omega arith
+    pub end-last : length s ≤ r .next → loadEnd x n (linesOf (drop at s)) ≡ done x
+    unfolding lowest unless linesOf follows
+    end-last last = end-step ∙ rw (drop-of-length-le s last)

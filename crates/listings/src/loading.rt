@@ -1,10 +1,8 @@
 // Load: a listing read line by line into a record and a buffer of cells.
 use cells::Cell;
 use cells::Crossbar;
-use common::MAX_COLUMNS;
+use cells::checks::in_range;
 use common::MAX_OUTPUTS;
-use common::MAX_ROWS;
-use common::MAX_SWITCHES;
 use common::Refusal;
 use forms::CellForm;
 use forms::Form;
@@ -15,11 +13,11 @@ ghost use mathlib.Core.Bool.{true};
 ghost use mathlib.Core.List.{List, []};
 ghost use Prim.Native.Nat.{ℕ, _+_, _*_, _≤_, _<_};
 ghost use lib.ListN.{length, drop, set};
-ghost use Rattle.common.specs.Limits.{maxRows, maxColumns, maxOutputs};
+ghost use Rattle.common.specs.Limits.{maxRows, maxColumns, maxOutputs, maxInput};
 ghost use Rattle.common.specs.Lists.{zeros, padded};
 ghost use Rattle.common.specs.Outcome.{refused, _then_};
 ghost use Rattle.figures.specs.Line.{linesOf};
-ghost use Rattle.listings.specs.Loading.{Listed, switchBelow, cellFault, outRowFault, sizeFault, loadEnd, loadOuts, loadCells, fitted, loadAt, load};
+ghost use Rattle.listings.specs.Loading.{Listed, switchBelow, cellFault, outRowFault, loadEnd, loadOuts, loadCells, fitted, loadAt, load};
 ghost use Rattle.listings.specs.Loader.{Handed, listed, sizesIn, placedBy, outputsOf, kept, CellsReached};
 
 // Ground 12: a cell or an output row is not where it may be, or names a switch that is not there.
@@ -42,32 +40,6 @@ struct Outputs {
     ok: bool,
     refusal: Refusal,
     outs: [u16; MAX_OUTPUTS],
-}
-
-// Ground 2, on the figures of the first line.
-fn size_fault(s: SizeForm) -> u32
-    ensures { λ r. ⌜ r ≡ sizeFault (listed s [] []) ⌝ }
-{
-    if s.rows < 1 {
-        return 2;
-    }
-    if MAX_ROWS < s.rows as usize {
-        return 2;
-    }
-    if MAX_COLUMNS < s.columns as usize {
-        return 2;
-    }
-    if MAX_SWITCHES < s.switches as usize {
-        return 2;
-    }
-    if s.outputs < 1 {
-        return 2;
-    }
-    if MAX_OUTPUTS < s.outputs as usize {
-        2
-    } else {
-        0
-    }
 }
 
 // Whether a cell names only switches below v.
@@ -154,14 +126,16 @@ fn refuse(refusal: Refusal, cells: &mut [u8]) -> Loaded
 // Cell lines, as many as there are, from the position `at` on. The buffer is clear when they begin. Each cell line has a place of its
 // own, so there are at most R·C, and the line's number fits.
 fn load_cells(text: &[u8], at: usize, line: u32, s: SizeForm, cells: &mut [u8]) -> Reached
-    requires { ⌜ (sizesIn s ≡ true) × (line ≤ 65536) × (now cells ≡ zeros (length (now cells))) ⌝ }
+    requires { ⌜ (sizesIn s ≡ true) × (line ≤ maxInput + 1) × (now cells ≡ zeros (length (now cells))) ⌝ }
     ensures { λ r. ⌜ CellsReached (now (text .entry)) s at line (now (cells .exit)) (length (now (cells .entry))) r ⌝ }
 {
     let mut next = at;
     let mut number = line;
     let mut count: usize = 0;
     loop {
-        let Form::Cell(f) = forms::form_at(text, next, number) else {
+        let read = forms::cell_line(text, next, number);
+        let form = read.form;
+        let Form::Cell(f) = form else {
             return Reached::Line {
                 at: next,
                 line: number,
@@ -178,35 +152,40 @@ fn load_cells(text: &[u8], at: usize, line: u32, s: SizeForm, cells: &mut [u8]) 
         let cell = f.cell;
         store(cells, place, cell.to_code() as u8);
         count = place + 1;
-        next = figures::line_end(text, next) + 1;
+        next = read.next;
         number += 1;
     }
 }
 
 // The answer for a line that is refused.
-fn no_outputs(number: u32, line: u32) -> Outputs
-    ensures { λ r. ⌜ r ≡ outputsOf (refused number line) ⌝ }
+fn no_outputs(refusal: Refusal) -> Outputs
+    ensures { λ r. ⌜ r ≡ outputsOf (refused (refusal .number) (refusal .line)) ⌝ }
 {
     Outputs {
         ok: false,
-        refusal: Refusal { number, line },
+        refusal,
         outs: [0; MAX_OUTPUTS],
     }
 }
 
 // `(end)`, and ground 10.
 fn load_end(text: &[u8], at: usize, line: u32, outs: [u16; MAX_OUTPUTS]) -> Outputs
-    requires { ⌜ line ≤ 33554432 ⌝ }
+    requires { ⌜ line ≤ maxInput + 1 + maxRows * maxColumns + maxOutputs ⌝ }
     ensures { λ r.
         ⌜ ((x : Listed)
         → padded maxOutputs (x .outs) ≡ outs
         → r ≡ outputsOf (loadEnd x line (linesOf (drop at (now (text .entry)))))) ⌝ }
 {
-    let Form::End = forms::form_at(text, at, line) else {
-        return no_outputs(1, line);
+    let read = forms::end_line(text, at, line);
+    let form = read.form;
+    let Form::End = form else {
+        return no_outputs(forms::refusal_of(form));
     };
-    if figures::line_end(text, at) + 1 < text.len() {
-        return no_outputs(10, line + 1);
+    if read.next < text.len() {
+        return no_outputs(Refusal {
+            number: 10,
+            line: line + 1,
+        });
     }
     Outputs {
         ok: true,
@@ -217,7 +196,7 @@ fn load_end(text: &[u8], at: usize, line: u32, outs: [u16; MAX_OUTPUTS]) -> Outp
 
 // The output lines, and the last line.
 fn load_outs(text: &[u8], at: usize, line: u32, s: SizeForm) -> Outputs
-    requires { ⌜ (sizesIn s ≡ true) × (line ≤ 16777216) ⌝ }
+    requires { ⌜ (sizesIn s ≡ true) × (line ≤ maxInput + 1 + maxRows * maxColumns) ⌝ }
     ensures { λ r.
         ⌜ ((codes : List ℕ)
         → r ≡ outputsOf (loadOuts (s .outputs) (listed s codes []) line (linesOf (drop at (now (text .entry)))))) ⌝ }
@@ -227,15 +206,20 @@ fn load_outs(text: &[u8], at: usize, line: u32, s: SizeForm) -> Outputs
     let mut number = line;
     let mut j: usize = 0;
     while j < s.outputs as usize {
-        let Form::Out(f) = forms::form_at(text, next, number) else {
-            return no_outputs(1, number);
+        let read = forms::out_line(text, next, number);
+        let form = read.form;
+        let Form::Out(f) = form else {
+            return no_outputs(forms::refusal_of(form));
         };
         let fault = stand_fault(s, j, f);
         if fault != 0 {
-            return no_outputs(fault, number);
+            return no_outputs(Refusal {
+                number: fault,
+                line: number,
+            });
         }
         outs[j] = f.target as u16;
-        next = figures::line_end(text, next) + 1;
+        next = read.next;
         number += 1;
         j += 1;
     }
@@ -276,7 +260,7 @@ fn finish(s: SizeForm, outs: [u16; MAX_OUTPUTS], cells: &mut [u8]) -> Loaded
 
 // The lines after the first. The buffer is clear when they begin.
 fn load_rest(text: &[u8], at: usize, line: u32, s: SizeForm, cells: &mut [u8]) -> Loaded
-    requires { ⌜ (sizesIn s ≡ true) × (line ≤ 65536) × (now cells ≡ zeros (length (now cells))) ⌝ }
+    requires { ⌜ (sizesIn s ≡ true) × (line ≤ maxInput + 1) × (now cells ≡ zeros (length (now cells))) ⌝ }
     ensures { λ r.
         ⌜ Handed (loadCells (listed s [] []) line (linesOf (drop at (now (text .entry)))) then λ x. fitted (length (now (cells .entry))) x)
         (length (now (cells .entry))) r (now (cells .exit)) ⌝ }
@@ -301,26 +285,21 @@ fn load_rest(text: &[u8], at: usize, line: u32, s: SizeForm, cells: &mut [u8]) -
 
 // A listing that starts at the position `at` of a text, on line number `line`, loaded into a buffer of cells.
 pub fn load_from(text: &[u8], at: usize, line: u32, cells: &mut [u8]) -> Loaded
-    requires { ⌜ line < 65536 ⌝ }
+    requires { ⌜ line ≤ maxInput ⌝ }
     ensures { λ r.
         ⌜ Handed (loadAt line (linesOf (drop at (now (text .entry)))) (length (now (cells .entry)))) (length (now (cells .entry))) r
         (now (cells .exit)) ⌝ }
 {
-    let Form::Size(s) = forms::form_at(text, at, line) else {
-        return refuse(Refusal { number: 1, line }, cells);
+    let read = forms::size_line(text, at, line);
+    let form = read.form;
+    let Form::Size(s) = form else {
+        return refuse(forms::refusal_of(form), cells);
     };
-    let fault = size_fault(s);
-    if fault != 0 {
-        return refuse(
-            Refusal {
-                number: fault,
-                line,
-            },
-            cells,
-        );
+    if !in_range(s.rows, s.columns, s.switches, s.outputs) {
+        return refuse(Refusal { number: 2, line }, cells);
     }
     common::clear(cells);
-    load_rest(text, figures::line_end(text, at) + 1, line + 1, s, cells)
+    load_rest(text, read.next, line + 1, s, cells)
 }
 
 // Listing text and an output buffer in, record and cells out.

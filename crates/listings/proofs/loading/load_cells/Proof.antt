@@ -1,14 +1,13 @@
 -- `listings::loading::load_cells` meets its contract: between two lines the definition has still to read the lines from the position
--- reached on, and the buffer holds the cells before it. The measure is what is left of the text. Assumes nothing.
+-- reached on, and the buffer holds the cells before it. The measure is what is left of the text.
 use borrow.Author.Needs.{needs}
 use Prim.Native.Nat.{_-_}
-use mathlib.Core.Path.{sym, ap, _∙_}
+use mathlib.Core.Path.{sym, _∙_}
 use native.Mathlib.Omega.{arith}
 use lib.ListN.{length}
-use Rattle.common.specs.Limits.{maxRows, maxColumns}
-use Rattle.forms.proofs.Sorts.{asCell}
+use Rattle.common.specs.Limits.{maxRows, maxColumns, maxInput}
 use Rattle.forms.proofs.Cases.{not-cell}
-use Rattle.listings.proofs.Steps.{ranged, cells-most, end-forward}
+use Rattle.listings.proofs.Steps.{ranged, cells-most}
 use Rattle.listings.proofs.Reader.{Going, going-start, held, going-other, going-inside, going-fault, going-more, right}
 use Rattle.listings.proofs.loading.load_cells.Statement.{statement}
 use Rattle.listings.proofs.loading.load_cells.Tie as tie
@@ -22,12 +21,6 @@ abbrev μ-loop : tie.MeasureT-loop
 loop-holds : tie.Need-loop-holds Inv-loop μ-loop
 loop-holds c = let a = c .before .before .args in going-start (a .text .now) (a .s) (a .at) (a .line) (a .cells .now) (c .before .before .pre .2)
 
-form-at-requires : tie.Need-form-at-requires Inv-loop μ-loop
-form-at-requires c κs = search needs
-
-enum-known-f : tie.Need-enum-known-f Inv-loop μ-loop
-enum-known-f c = search needs
-
 same-length : tie.Need-same-length Inv-loop μ-loop
 same-length c =
     let l = c .before .before in
@@ -40,10 +33,7 @@ returns c =
     let l = c .before .before in
     let a = c .before .before .before .before .before .args in
     let z = ranged (a .s) (c .before .before .before .before .before .pre .0) in
-    going-other (l .loop .inv) z (ap asCell (sym (c .before .form-at .ensures)) ∙ not-cell _ (c .match .keys2))
-
-cell-fault-requires : tie.Need-cell-fault-requires Inv-loop μ-loop
-cell-fault-requires c κs = c .before .before .before .before .before .before .before .pre .0
+    going-other (l .loop .inv) z _ (c .before .cell-line .ensures) (not-cell _ (c .match .keys2))
 
 same-length-2 : tie.Need-same-length-2 Inv-loop μ-loop
 same-length-2 c =
@@ -57,36 +47,24 @@ returns-2 c =
     let l = c .before .before .before .before .before .before in
     let a = c .before .before .before .before .before .before .before .before .before .args in
     let z = ranged (a .s) (c .before .before .before .before .before .before .before .before .before .pre .0) in
-    let e = sym (c .before .before .before .before .before .form-at .ensures) ∙ c .before .before .before .f .given .1 in
-    let f = c .before .before .before .f .given .0 .0 in
-    going-fault (l .loop .inv) z f e _ _ (c .before .cell-fault .ensures (l .loop .inv .codes) (l .loop .inv .counted)) (c .if1 .taken)
+    going-fault (l .loop .inv) z _ (c .before .before .before .before .before .cell-line .ensures) (c .before .before .before .form .given .0 .0) (c .before .before .before .form .given .1) _ _ (c .before .cell-fault .ensures (l .loop .inv .codes) (l .loop .inv .counted)) (c .if1 .taken)
 
 place-of-requires : tie.Need-place-of-requires Inv-loop μ-loop
 place-of-requires c κs =
     let l = c .before .before .before .before .before .before in
     let a = c .before .before .before .before .before .before .before .before .before .args in
     let z = ranged (a .s) (c .before .before .before .before .before .before .before .before .before .pre .0) in
-    let e = sym (c .before .before .before .before .before .form-at .ensures) ∙ c .before .before .before .f .given .1 in
-    let f = c .before .before .before .f .given .0 .0 in
-    let w = right (a .s) (l .loop .inv .codes) _ f z (l .loop .inv .counted) (sym (c .before .cell-fault .ensures (l .loop .inv .codes) (l .loop .inv .counted)) ∙ c .if1 .left) in
+    let w = right (a .s) (l .loop .inv .codes) _ (c .before .before .before .form .given .0 .0) z (l .loop .inv .counted) (sym (c .before .cell-fault .ensures (l .loop .inv .codes) (l .loop .inv .counted)) ∙ c .if1 .left) in
     (w .row-small, w .column-small, z .columns-most)
-
-to-code-requires : tie.Need-to-code-requires Inv-loop μ-loop
-to-code-requires c κs = search needs
 
 cast-store : tie.Need-cast-store Inv-loop μ-loop
 cast-store c =
     let l = c .before .before .before .before .before .before .before .before .before in
     let a = c .before .before .before .before .before .before .before .before .before .before .before .before .args in
     let z = ranged (a .s) (c .before .before .before .before .before .before .before .before .before .before .before .before .pre .0) in
-    let e = sym (c .before .before .before .before .before .before .before .before .form-at .ensures) ∙ c .before .before .before .before .before .before .f .given .1 in
-    let f = c .before .before .before .before .before .before .f .given .0 .0 in
-    let w = right (a .s) (l .loop .inv .codes) _ f z (l .loop .inv .counted) (sym (c .before .before .before .before .cell-fault .ensures (l .loop .inv .codes) (l .loop .inv .counted)) ∙ c .before .before .before .if1 .left) in
+    let w = right (a .s) (l .loop .inv .codes) _ (c .before .before .before .before .before .before .form .given .0 .0) z (l .loop .inv .counted) (sym (c .before .before .before .before .cell-fault .ensures (l .loop .inv .codes) (l .loop .inv .counted)) ∙ c .before .before .before .if1 .left) in
     let k = c .to-code .ensures in
     omega (arith, w .code-small)
-
-store-requires : tie.Need-store-requires Inv-loop μ-loop
-store-requires c κs = search needs
 
 add-count : tie.Need-add-count Inv-loop μ-loop
 unfolding maxRows maxColumns
@@ -94,54 +72,32 @@ add-count c =
     let l = c .before .before .before .before .before .before .before .before .before .before .before .before in
     let a = c .before .before .before .before .before .before .before .before .before .before .before .before .before .before .before .args in
     let z = ranged (a .s) (c .before .before .before .before .before .before .before .before .before .before .before .before .before .before .before .pre .0) in
-    let e = sym (c .before .before .before .before .before .before .before .before .before .before .before .form-at .ensures) ∙ c .before .before .before .before .before .before .before .before .before .f .given .1 in
-    let f = c .before .before .before .before .before .before .before .before .before .f .given .0 .0 in
-    let w = right (a .s) (l .loop .inv .codes) _ f z (l .loop .inv .counted) (sym (c .before .before .before .before .before .before .before .cell-fault .ensures (l .loop .inv .codes) (l .loop .inv .counted)) ∙ c .before .before .before .before .before .before .if1 .left) in
+    let w = right (a .s) (l .loop .inv .codes) _ (c .before .before .before .before .before .before .before .before .before .form .given .0 .0) z (l .loop .inv .counted) (sym (c .before .before .before .before .before .before .before .cell-fault .ensures (l .loop .inv .codes) (l .loop .inv .counted)) ∙ c .before .before .before .before .before .before .if1 .left) in
     let k = c .before .before .before .before .before .place-of .ensures in
     omega (arith, w .inside, cells-most (a .s) z)
 
-line-end-requires : tie.Need-line-end-requires Inv-loop μ-loop
-line-end-requires c κs = search needs
-
-add-next : tie.Need-add-next Inv-loop μ-loop
-add-next c =
-    let l = c .before .before .before .before .before .before .before .before .before .before .before .before .before in
-    let a = c .before .before .before .before .before .before .before .before .before .before .before .before .before .before .before .before .args in
-    let z = ranged (a .s) (c .before .before .before .before .before .before .before .before .before .before .before .before .before .before .before .before .pre .0) in
-    let e = sym (c .before .before .before .before .before .before .before .before .before .before .before .before .form-at .ensures) ∙ c .before .before .before .before .before .before .before .before .before .before .f .given .1 in
-    let f = c .before .before .before .before .before .before .before .before .before .before .f .given .0 .0 in
-    let k = c .line-end .ensures in
-    omega (arith, going-inside (l .loop .inv) z f e)
-
 add-number : tie.Need-add-number Inv-loop μ-loop
-unfolding maxRows maxColumns
+unfolding maxRows maxColumns maxInput
 add-number c =
-    let l = c .before .before .before .before .before .before .before .before .before .before .before .before .before in
-    let a = c .before .before .before .before .before .before .before .before .before .before .before .before .before .before .before .before .args in
-    let z = ranged (a .s) (c .before .before .before .before .before .before .before .before .before .before .before .before .before .before .before .before .pre .0) in
+    let l = c .before .before .before .before .before .before .before .before .before .before .before .before in
+    let a = c .before .before .before .before .before .before .before .before .before .before .before .before .before .before .before .args in
+    let z = ranged (a .s) (c .before .before .before .before .before .before .before .before .before .before .before .before .before .before .before .pre .0) in
     omega (arith, l .loop .inv .lines, l .loop .inv .short, cells-most (a .s) z)
 
 loop-less : tie.Need-loop-less Inv-loop μ-loop
 loop-less c =
-    let l = c .before .before .before .before .before .before .before .before .before .before .before .before .before in
-    let a = c .before .before .before .before .before .before .before .before .before .before .before .before .before .before .before .before .args in
-    let z = ranged (a .s) (c .before .before .before .before .before .before .before .before .before .before .before .before .before .before .before .before .pre .0) in
-    let e = sym (c .before .before .before .before .before .before .before .before .before .before .before .before .form-at .ensures) ∙ c .before .before .before .before .before .before .before .before .before .before .f .given .1 in
-    let f = c .before .before .before .before .before .before .before .before .before .before .f .given .0 .0 in
-    let k = c .line-end .ensures in
-    omega (arith, going-inside (l .loop .inv) z f e, end-forward (a .text .now) (l .loop .next))
+    let l = c .before .before .before .before .before .before .before .before .before .before .before .before in
+    let a = c .before .before .before .before .before .before .before .before .before .before .before .before .before .before .before .args in
+    let z = ranged (a .s) (c .before .before .before .before .before .before .before .before .before .before .before .before .before .before .before .pre .0) in
+    omega (arith, going-inside (l .loop .inv) z _ (c .before .before .before .before .before .before .before .before .before .before .before .cell-line .ensures) (c .before .before .before .before .before .before .before .before .before .form .given .0 .0) (c .before .before .before .before .before .before .before .before .before .form .given .1))
 
 loop-again : tie.Need-loop-again Inv-loop μ-loop
 loop-again c =
-    let l = c .before .before .before .before .before .before .before .before .before .before .before .before .before in
-    let a = c .before .before .before .before .before .before .before .before .before .before .before .before .before .before .before .before .args in
-    let z = ranged (a .s) (c .before .before .before .before .before .before .before .before .before .before .before .before .before .before .before .before .pre .0) in
-    let e = sym (c .before .before .before .before .before .before .before .before .before .before .before .before .form-at .ensures) ∙ c .before .before .before .before .before .before .before .before .before .before .f .given .1 in
-    let f = c .before .before .before .before .before .before .before .before .before .before .f .given .0 .0 in
-    let k = c .line-end .ensures in
-    let h = sym (c .before .before .before .before .before .before .before .before .cell-fault .ensures (l .loop .inv .codes) (l .loop .inv .counted)) ∙ c .before .before .before .before .before .before .before .if1 .left in
-    rw k
-    (going-more (l .loop .inv) z f e _ _ _ h (c .before .before .before .before .before .before .place-of .ensures) (c .before .before .before .before .to-code .ensures) (c .before .before .before .store .ensures))
+    let l = c .before .before .before .before .before .before .before .before .before .before .before .before in
+    let a = c .before .before .before .before .before .before .before .before .before .before .before .before .before .before .before .args in
+    let z = ranged (a .s) (c .before .before .before .before .before .before .before .before .before .before .before .before .before .before .before .pre .0) in
+    let h = sym (c .before .before .before .before .before .before .before .cell-fault .ensures (l .loop .inv .codes) (l .loop .inv .counted)) ∙ c .before .before .before .before .before .before .if1 .left in
+    going-more (l .loop .inv) z _ (c .before .before .before .before .before .before .before .before .before .before .before .cell-line .ensures) (c .before .before .before .before .before .before .before .before .before .form .given .0 .0) (c .before .before .before .before .before .before .before .before .before .form .given .1) _ _ _ h (c .before .before .before .before .before .place-of .ensures) (c .before .before .before .to-code .ensures) (c .before .before .store .ensures)
 
 pub load-cells-spec : {M : Type 1} → statement M
 load-cells-spec =
@@ -150,20 +106,18 @@ load-cells-spec =
     Inv-loop
     μ-loop
     loop-holds
-    form-at-requires
-    enum-known-f
+    (λ c κs. search needs)
+    (λ c. search needs)
     same-length
     returns
-    cell-fault-requires
+    (λ c κs. c .before .before .before .before .before .before .before .pre .0)
     same-length-2
     returns-2
     place-of-requires
-    to-code-requires
+    (λ c κs. search needs)
     cast-store
-    store-requires
+    (λ c κs. search needs)
     add-count
-    line-end-requires
-    add-next
     add-number
     loop-less
     loop-again)
