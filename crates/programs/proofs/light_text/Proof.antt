@@ -51,6 +51,7 @@ slice-aggregate-load-from : tie.Need-slice-aggregate-load-from
 slice-aggregate-load-from c = search needs
 
 load-from-requires : tie.Need-load-from-requires
+unfolding maxInput
 load-from-requires c κs = search needs
 
 refuse-requires-3 : tie.Need-refuse-requires-3
