@@ -35,7 +35,7 @@ abbrev Done : {A : Type 0} → Outcome A → Type 0
 Done {A} o = (a : A) × (o ≡ done a)
 
 -- what follows ground 12 on a record's slice
-held-done :
+pub held-done :
     {A : Type 0} (s : List ℕ) (rest : Outcome A) (a : A) → ofRecord s rest ≡ done a → (holdsRecord s ≡ true) × (rest ≡ done a)
 unfolding ofRecord
 held-done s rest a h =

@@ -1,6 +1,7 @@
 pub mod Acceptance
 pub mod Calls
 pub mod Demand3
+pub mod Lamp
 pub mod Sheets
 pub mod Slices
 pub mod RoundTrips

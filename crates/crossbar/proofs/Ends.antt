@@ -73,9 +73,9 @@ due-ends {b} t n (l ⏎ ls) h = by-values (values t l)
     by-values none = ends-refused h
     by-values (some vs) = ends-done h
 
--- a line above the last one that a job or a listing can have
+-- a line above the last one that a job or a listing can have: a listing has no more cell lines than cells
 unfoldable pub mostLine : ℕ
-mostLine = 20000
+mostLine = maxRows * maxColumns + maxNodes + maxOutputs + 4
 
 -- the lines of a job, from line n on
 module _ (b : ℕ) where
@@ -115,7 +115,7 @@ module _ (b : ℕ) where
       (λ o g. unless-ends _ n _ here (λ z. nodes-end m k _ (n + 1) (o .later) rest))
 
 text-ends : (s : List ℕ) → EndsText mostLine (readText s)
-unfolding readText readHead mostLine maxNodes maxOutputs
+unfolding readText readHead mostLine
 text-ends s =
     then-ends (due jobForm 1 (linesOf s)) _ (due-ends jobForm 1 (linesOf s) (omega arith))
     (λ o g.
@@ -224,7 +224,7 @@ module _ (b : ℕ) where
       by-placed none h = stands-end (x .outputs) x n (l ⏎ ls) (c .sizes) (omega arith)
 
 sizes-counted : (vs : List ℕ) → sizeFault (sized vs) ≡ 0 → Counted mostLine (sized vs) 2
-unfolding sizeFault sized mostLine maxRows maxColumns maxOutputs
+unfolding sizeFault sized mostLine
 sizes-counted vs z =
     let r = getD vs 0 0 in
     let c = getD vs 1 0 in
@@ -232,8 +232,8 @@ sizes-counted vs z =
     let ranges =
     in-range r c (getD vs 2 0) k
     (not-false (inRange r c (getD vs 2 0) k) (not-met 1 (not (inRange r c (getD vs 2 0) k)) [] z)) in
-    let cells : r * c ≤ 128 * 128 = mul-le-mul (ranges .rows-most) (ranges .columns-most) in
-    let few : k ≤ 32 = ranges .outputs-most in
+    let cells : r * c ≤ maxRows * maxColumns = mul-le-mul (ranges .rows-most) (ranges .columns-most) in
+    let few : k ≤ maxOutputs = ranges .outputs-most in
     record {
       sizes = record { rows-most = ranges .rows-most; columns-most = ranges .columns-most };
       number = omega arith;

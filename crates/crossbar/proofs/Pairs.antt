@@ -123,7 +123,7 @@ pairs-tab s (suc n) small h =
 pub record-again :
     (s : List ℕ) → all-of (λ b. ltb b 256) s ≡ true → recordLength ≤ length s → recordBytes (recordFrom s) ≡ take recordLength s
 unfolding recordLength recordFrom recordBytes numbersOf maxOutputs tab
-record-again s small h = pairs-tab s 36 small h
+record-again s small h = pairs-tab s (4 + maxOutputs) small h
 
 -- a buffer of zeros holds no numbers
 pub no-numbers : (m : ℕ) → zeros m ≡ padded m (pairs [])

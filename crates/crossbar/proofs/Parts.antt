@@ -4,7 +4,7 @@ use mathlib.Core.Path.{_≡_, refl, ap, _∙_}
 use mathlib.Core.List.{List}
 use native.Mathlib.Omega.{arith}
 use lib.ListN.{length}
-use Rattle.common.specs.Limits.{maxRows, maxColumns, maxText}
+use Rattle.common.specs.Limits.{maxRows, maxColumns, maxNodes, maxOutputs, maxText}
 use Rattle.common.specs.Outcome.{Outcome, done, refused, numberOf}
 use Rattle.cells.specs.Record.{Whole}
 use Rattle.jobs.specs.Job.{walk}
@@ -53,7 +53,7 @@ unfolding ofRecord within mostNumber
 of-record-numbered s rest p = unless-numbered _ _ _ (lowest-within _ refl) p
 
 pub calls-read : CallsRead
-unfolding hostMap hostLoad hostLight hostPrint mostLine maxRows maxColumns maxText
+unfolding hostMap hostLoad hostLight hostPrint mostLine maxRows maxColumns maxNodes maxOutputs maxText
 calls-read =
     record {
       of-map =

@@ -19,7 +19,7 @@ use Rattle.diagram.specs.Diagram.{Diagram, idCount, bare, withNode, withOut}
 use Rattle.diagram.specs.Faults.{nodeFault, outFault}
 use Rattle.jobs.specs.Reading.{ReadText, nodeOf, readEnd, readOuts, readNodes, readOne, readHead, readText}
 use Rattle.jobs.specs.Text.{nodeLines, outputLines, jobText}
-use Rattle.jobs.proofs.TextWritten.{made}
+use Rattle.jobs.proofs.TextWritten.{made, text-front}
 
 -- the last line
 end-told :
@@ -133,7 +133,7 @@ pub text-told :
     (s : List ℕ) (t : ReadText)
     → readText s ≡ done t
     → (s ≡ jobText (t .diagram)) × (t .last ≡ 3 + length (t .diagram .nodes) + length (t .diagram .outs))
-unfolding readText readHead readOne bare jobText idCount
+unfolding readText readHead readOne bare idCount
 text-told s t h =
     let taken = then-done (due jobForm 1 (linesOf s)) _ t h in
     let vs = taken .0 .vals in
@@ -156,5 +156,6 @@ text-told s t h =
     told .1
     ∙ ap (λ (r : List ℕ). line jobForm vs ++ r) (told₂ .1 ∙ ap (λ (r : List ℕ). line oneForm us ++ r) (more .text))
     ∙ ap (λ (ws : List ℕ). line jobForm ws ++ (line oneForm us ++ (nodeLines 2 ns ++ (outputLines 0 os ++ line endForm [])))) sizes
-    ∙ ap (λ (ws : List ℕ). line jobForm (v ∷ length ns ∷ length os ∷ []) ++ (line oneForm ws ++ (nodeLines 2 ns ++ (outputLines 0 os ++ line endForm [])))) shape₂ in
+    ∙ ap (λ (ws : List ℕ). line jobForm (v ∷ length ns ∷ length os ∷ []) ++ (line oneForm ws ++ (nodeLines 2 ns ++ (outputLines 0 os ++ line endForm [])))) shape₂
+    ∙ sym (text-front (made v one ns os)) in
     rw result (text, refl)

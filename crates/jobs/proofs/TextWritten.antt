@@ -247,13 +247,22 @@ unfolding oneFault lowest
 one-right t (inl e) = rw e (refl, omega arith, omega arith)
 one-right t (inr e) = rw e (refl, omega arith, omega arith)
 
+-- the text, from its front
+pub text-front :
+    (d : Diagram)
+    → jobText d
+    ≡ line jobForm (d .switches ∷ length (d .nodes) ∷ length (d .outs) ∷ [])
+    ++ (line oneForm (d .one ∷ []) ++ (nodeLines 2 (d .nodes) ++ (outputLines 0 (d .outs) ++ line endForm [])))
+unfolding jobText
+text-front d = simp append-assoc
+
 -- the whole text
 pub written-read :
     (d : Diagram)
     → Facts d
     → HeadSizes d
     → readText (jobText d) ≡ done (record { diagram = d; last = 3 + length (d .nodes) + length (d .outs) })
-unfolding readText readHead readOne bare jobText
+unfolding readText readHead readOne bare
 written-read d facts sizes =
     let v = d .switches in
     let ns = d .nodes in
@@ -262,7 +271,8 @@ written-read d facts sizes =
     let one = one-right (d .one) (facts .one-label) in
     let ends = outputLines 0 os ++ line endForm [] in
     let fits = job-fits v (length ns) (length os) (omega (arith, sizes .switches-most)) (omega (arith, sizes .nodes-most)) (omega (arith, sizes .outs-most)) in
-    then-is _ _ _ (due-written jobForm (v ∷ length ns ∷ length os ∷ []) 1 (line oneForm (d .one ∷ []) ++ (nodeLines 2 ns ++ ends)) job-apart fits)
+    ap readText (text-front d)
+    ∙ then-is _ _ _ (due-written jobForm (v ∷ length ns ∷ length os ∷ []) 1 (line oneForm (d .one ∷ []) ++ (nodeLines 2 ns ++ ends)) job-apart fits)
     ∙ unless-none _ 1 _ (head-right v (length ns) (length os) (sizes .switches-most) (sizes .nodes-most) (sizes .outs-least) (sizes .outs-most))
     ∙ then-is _ _ _ (due-written oneForm (d .one ∷ []) 2 (nodeLines 2 ns ++ ends) one-apart (one-fits (d .one) (one .1) (one .2)))
     ∙ unless-none _ 2 _ (one .0)

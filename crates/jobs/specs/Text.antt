@@ -30,7 +30,10 @@ outputLines j (i ∷ is) = line outForm (j ∷ i ∷ []) ++ outputLines (suc j) 
 unfoldable pub jobText : Diagram → List ℕ
 jobText d =
     line jobForm (d .switches ∷ length (d .nodes) ∷ length (d .outs) ∷ [])
-    ++ (line oneForm (d .one ∷ []) ++ (nodeLines 2 (d .nodes) ++ (outputLines 0 (d .outs) ++ line endForm [])))
+    ++ line oneForm (d .one ∷ [])
+    ++ nodeLines 2 (d .nodes)
+    ++ outputLines 0 (d .outs)
+    ++ line endForm []
 
 -- the sizes that ground 2 asks for
 pub record HeadSizes (d : Diagram) : Type 0 where
