@@ -11,9 +11,10 @@ use Rattle.common.specs.Lists.{zeros, padded}
 use Rattle.common.specs.Outcome.{Outcome, done, refused, _then_, lowest, unless, numberOf, lineOf, refusalOf, valueOf, bufferOf}
 use Rattle.cells.specs.declared.Crossbar.{Crossbar}
 use Rattle.cells.specs.Record.{Whole, no-record, size}
+use Rattle.common.specs.Outcome as outcome
 use Rattle.placement.specs.declared.Mapped.{Mapped}
 use Rattle.placement.specs.Map.{mapJob}
-use Rattle.placement.specs.Answer.{mapped, MapAnswers}
+use Rattle.placement.specs.Answer.{mapped}
 use Rattle.listings.specs.declared.loading.Loaded.{Loaded}
 use Rattle.listings.specs.Loading.{load}
 use Rattle.listings.specs.Loader.{loadedOf, Handed}
@@ -96,7 +97,7 @@ pub record Beneath (o : Outcome Whole) (m : ℕ) (refusal : Refusal) (x : Crossb
 
 pub map-beneath :
     (text before after : List ℕ) (r : Mapped)
-    → MapAnswers text before after r
+    → outcome.Answered (mapJob text (length before)) mapped (λ (w : Whole). w .codes) (length before) r after
     → Beneath (mapJob text (length before)) (length before) (r .refusal) (r .head) after
 unfolding mapped
 map-beneath text before after r a =
@@ -107,7 +108,7 @@ map-beneath text before after r a =
       low = rw (a .answer) (number-most o numbered);
       refusal-is = ap (λ (q : Mapped). q .refusal) (a .answer);
       record-is = ap (λ (q : Mapped). q .head) (a .answer);
-      cells-are = a .cells;
+      cells-are = a .buffer;
     }
 
 pub load-beneath :

@@ -1,5 +1,5 @@
 -- Stores into a buffer of zeros, each of what is to stand at its place: in any order, once each place that is not to be 0 has its
--- store, the buffer is as it is to be. Assumes nothing.
+-- store, the buffer is as it is to be.
 use Prim.Native.Nat.{ℕ, zero, suc, _<_}
 use mathlib.Core.Path.{_≡_, refl, sym, _∙_}
 use mathlib.Core.Logic.{_⊎_, inl, inr, ⊎-elim}
@@ -9,9 +9,8 @@ use native.Mathlib.Omega.{arith}
 use lib.ListN.{length, getD, set, length-set, length-replicate}
 use lib.Seq.{getD-set-same, getD-set-other, ext-getD}
 use Rattle.common.specs.Lists.{zeros}
-use Rattle.common.proofs.Lists.{by-test, true-or-false, equal-or-not, at-or-below}
-use Rattle.placement.specs.Stores.{puts}
-use Rattle.placement.proofs.Edges.{put-on, put-off}
+use Rattle.common.proofs.Lists.{true-or-false, equal-or-not}
+use Rattle.placement.specs.Filling.{choose, storeIf}
 
 -- what stands at a place is what is to stand there
 abbrev pub Filled : List ℕ → List ℕ → ℕ → Type 0
@@ -73,60 +72,24 @@ module _ (target : List ℕ) where
             (store-at s p a q partly within e);
       }
 
-  -- a buffer after stores: what was filled is kept, and the places of the stores are filled
-  pub record Stored (test : ℕ → Bool) (place : ℕ → ℕ) (n : ℕ) (before after : List ℕ) : Type 0 where
+  -- a buffer after one store, or none: what was filled is kept, and the place of the store is filled
+  pub record Stored (test : Bool) (place : ℕ) (before after : List ℕ) : Type 0 where
     pub partly : Partly target after
     pub kept : (q : ℕ) → Filled target before q → Filled target after q
-    pub filled : (k : ℕ) → k < n → test k ≡ true → Filled target after (place k)
+    pub filled : test ≡ true → Filled target after place
 
-  module _ (test : ℕ → Bool) (place code : ℕ → ℕ) where
-    one-more :
-        (n : ℕ) (before s : List ℕ)
-        → Stored test place n before s
-        → place n < length target
-        → getD target (place n) 0 ≡ code n
-        → Stored test place (suc n) before (set s (place n) (code n))
-    one-more n before s after within e =
-        record {
-          partly = store-partly s (place n) (code n) (after .partly) within e;
-          kept = λ q f. store-kept s (place n) (code n) q (after .partly) within e (after .kept q f);
-          filled = λ k h on.
-              ⊎-elim
-              (λ (last : k ≡ n). rw last (store-new s (place n) (code n) (after .partly) within e))
-              (λ (below : k < n). store-kept s (place n) (code n) (place k) (after .partly) within e (after .filled k below on))
-              (at-or-below k n h);
-        }
-
-    none-more :
-        (n : ℕ) (before s : List ℕ) → Stored test place n before s → test n ≡ false → Stored test place (suc n) before s
-    none-more n before s after off =
-        record {
-          partly = after .partly;
-          kept = after .kept;
-          filled = λ k h on.
-              ⊎-elim
-              (λ (last : k ≡ n). absurd (true-or-false (test n) (rw last at on) off))
-              (λ (below : k < n). after .filled k below on)
-              (at-or-below k n h);
-        }
-
-    -- stores of what is to stand at their places
-    pub all-stored :
-        (n : ℕ) (s : List ℕ)
-        → Partly target s
-        → ((k : ℕ) → k < n → test k ≡ true → (place k < length target) × (getD target (place k) 0 ≡ code k))
-        → Stored test place n s (puts test place code n s)
-    unfolding puts
-    all-stored zero s partly right =
-        record { partly = partly; kept = λ q f. f; filled = λ k h on. absurd (omega arith) }
-    all-stored (suc n) s partly right =
-        let after = all-stored n s partly (λ k h. right k (omega arith)) in
-        ⊎-elim
-        (λ (on : test n ≡ true).
-        let to = right n (omega arith) on in
-        rw (put-on (test n) (place n) (code n) (puts test place code n s) on)
-        (one-more n s (puts test place code n s) after (to .0) (to .1)))
-        (λ (off : test n ≡ false).
-        rw (put-off (test n) (place n) (code n) (puts test place code n s) off)
-        (none-more n s (puts test place code n s) after off))
-        (by-test (test n))
+  pub one-store :
+      (test : Bool) (place code : ℕ) (s : List ℕ)
+      → Partly target s
+      → (test ≡ true → (place < length target) × (getD target place 0 ≡ code))
+      → Stored test place s (storeIf test place code s)
+  unfolding storeIf choose
+  one-store true place code s partly right =
+      let to = right refl in
+      record {
+        partly = store-partly s place code partly (to .0) (to .1);
+        kept = λ q f. store-kept s place code q partly (to .0) (to .1) f;
+        filled = λ e. store-new s place code partly (to .0) (to .1);
+      }
+  one-store false place code s partly right =
+      record { partly = partly; kept = λ q f. f; filled = λ e. absurd (true-or-false false e refl) }

@@ -1,4 +1,4 @@
--- The record from the tables: one output more, all of them, and that it is the record of the placement. Assumes nothing.
+-- The record from the tables: one output more, all of them, and that it is the record of the placement.
 use Prim.Native.Nat.{ℕ, suc, _+_, _-_, _≤_, _<_}
 use mathlib.Core.Path.{_≡_, refl, sym, _∙_}
 use mathlib.Core.Logic.{⊎-elim}
@@ -17,8 +17,8 @@ use Rattle.cells.specs.declared.Crossbar.{Crossbar}
 use Rattle.diagram.specs.Diagram.{Diagram, idCount}
 use Rattle.diagram.specs.Wires.{rowOwners, rowOf, namesZero, rowCount, columnCount}
 use Rattle.placement.specs.Placement.{outRow, crossbar}
-use Rattle.placement.specs.Stores.{either, outRowIn, headFrom}
-use Rattle.placement.proofs.Running.{byte-bit}
+use Rattle.placement.specs.Filling.{choose, outRowIn, headFrom}
+use Rattle.diagram.proofs.Running.{byte-bit}
 
 -- an entry past the padded list's own
 pub pad-more : (n : ℕ) (s : List ℕ) (a i : ℕ) → i ≡ length s → i < n → set (padded n s) i a ≡ padded n (s ++ (a ∷ []))
@@ -62,7 +62,7 @@ out-tabled :
     → height ≡ length (rowOwners d)
     → getD rows i 0 ≡ rowOf d i
     → outRowIn rows height i ≡ outRow d i
-unfolding outRowIn either outRow
+unfolding outRowIn choose outRow
 out-tabled d rows height i e f =
     ⊎-elim
     (λ (zeroth : eqb i 0 ≡ true). rw (zeroth, outRow) e)

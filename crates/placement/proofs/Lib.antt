@@ -4,11 +4,9 @@ pub mod Readings
 pub mod Count
 pub mod Sentences
 pub mod Sound
-pub mod Running
-pub mod Labels
-pub mod Edges
+pub mod FillingLaws
 pub mod Heads
 pub mod Filled
 pub mod Wanted
-pub mod Arrays
+pub mod Tabled
 pub mod Maps

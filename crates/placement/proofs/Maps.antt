@@ -1,44 +1,131 @@
--- Map's answer, from what the reader hands over: the refusal of the job, ground 14, or the placement of the diagram in the arrays.
--- Assumes nothing.
+-- Map's answer: the refusal of the job, ground 14, or the placement of the diagram in the table.
 use Prim.Native.Nat.{ℕ, _+_, _*_, _-_, _≤_, _<_}
 use mathlib.Core.Path.{_≡_, refl, sym, ap, _∙_}
 use mathlib.Core.List.{List, [], _∷_}
 use native.Mathlib.Omega.{arith}
 use native.Mathlib.Nat.{mul-le-mul}
-use lib.ListN.{length, take, length-append, length-replicate}
-use lib.Seq.{take-append-seam}
-use lib.Dec.{ltb}
+use lib.ListN.{length, getD, take}
+use lib.Seq.{length-take-le, getD-take, take-append-seam}
 use borrow.Author.Tests.{lt-ltb, le-ltb}
-use Rattle.common.specs.Limits.{maxRows, maxColumns, maxNodes, maxOutputs}
+use Rattle.common.specs.Limits.{maxRows, maxColumns, maxNodes, maxIds, maxOutputs}
 use Rattle.common.specs.Lists.{zeros, padded}
-use Rattle.common.specs.Outcome.{Outcome, done, refused, _then_, _when_, lowest, unless, numberOf, lineOf, refusalOf, valueOf, bufferOf}
-use Rattle.common.proofs.Lists.{length-padded}
-use Rattle.common.specs.declared.Refusal.{Refusal}
+use Rattle.common.specs.Outcome.{Outcome, done, refused, _then_, lowest, unless, numberOf, lineOf, refusalOf, valueOf, bufferOf, Answered}
+use Rattle.common.proofs.Lists.{length-padded, length-tab}
+use Rattle.cells.specs.declared.Crossbar.{Crossbar}
 use Rattle.cells.specs.Record.{Whole, size}
-use Rattle.diagram.specs.Diagram.{Diagram}
-use Rattle.diagram.specs.Stored.{stored}
+use Rattle.diagram.specs.declared.WireTable.{WireTable}
+use Rattle.diagram.specs.Diagram.{Diagram, idCount}
+use Rattle.diagram.specs.Table.{entryIn, tabled, WireNumbers}
 use Rattle.diagram.specs.Wires.{rowCount, columnCount}
 use Rattle.diagram.specs.Facts.{Facts, Sizes}
+use Rattle.diagram.proofs.TableLaws.{idCount-tabled}
+use Rattle.jobs.specs.declared.Job.{Job}
 use Rattle.jobs.specs.declared.JobRead.{JobRead}
-use Rattle.jobs.specs.Job.{accepted, table}
+use Rattle.jobs.specs.Job.{accepted}
 use Rattle.jobs.specs.Answer.{jobOf, jobRead}
+use Rattle.jobs.specs.Spread.{flat}
 use Rattle.jobs.proofs.Accepted.{accepted-job}
-use Rattle.jobs.proofs.Entries.{Holds, job-stored}
+use Rattle.jobs.proofs.Spread.{flat-terminals, flat-tabled}
 use Rattle.jobs.proofs.Whole.{read-done}
-use Rattle.jobs.proofs.Walks.{read-is, nodes-few, outs-few}
+use Rattle.jobs.proofs.Walks.{read-is}
 use Rattle.placement.specs.declared.Mapped.{Mapped}
 use Rattle.placement.specs.Placement.{cells, crossbar}
 use Rattle.placement.specs.Map.{mapJob}
-use Rattle.placement.specs.Answer.{mapped, MapAnswers}
+use Rattle.placement.specs.Answer.{mapped}
+use Rattle.placement.specs.Filling.{headFrom, allCells, CellsFit, placed, jobIn, JobHeld}
+use Rattle.placement.proofs.Heads.{head-is}
+use Rattle.placement.proofs.Tabled.{same-numbers, cells-fit, all-right}
 
--- an outcome of map with its answer and its buffer
-given :
-    (s before after : List ℕ) (m : Mapped) (o : Outcome Whole)
-    → mapJob s (length before) ≡ o
-    → m ≡ mapped o
-    → after ≡ bufferOf (length before) (λ w. w .codes) o
-    → MapAnswers s before after m
-given s before after m o is a b = record { answer = a ∙ ap mapped (sym is); cells = b ∙ ap (bufferOf (length before) (λ w. w .codes)) (sym is) }
+-- what map and its part promise of an outcome
+abbrev pub Gives : Outcome Whole → ℕ → Mapped → List ℕ → Type 0
+Gives o room m after = Answered o mapped (λ (w : Whole). w .codes) room m after
+
+-- the figures of a job in a table, and what they keep to
+module _ (t : List ℕ) (job : Job) (held : JobHeld t job) where
+  abbrev d : Diagram
+  d = jobIn t job
+
+  pub nodes-fit : job .nodes ≤ maxNodes
+  unfolding tabled
+  nodes-fit = rw (length-tab (job .nodes) (λ (k : ℕ). entryIn t (k + 2))) at (held .sizes .nodes-most)
+
+  pub outs-fit : job .outputs ≤ maxOutputs
+  unfolding tabled
+  outs-fit = rw (length-take-le (job .outputs) (job .outs) (held .outs)) at (held .sizes .outs-most)
+
+  named : (j : ℕ) → j < length (take (job .outputs) (job .outs)) → getD (take (job .outputs) (job .outs)) j 0 < idCount d
+  unfolding tabled
+  named = held .facts .outs-named
+
+  pub names-fit : (j : ℕ) → j < job .outputs → getD (job .outs) j 0 < maxIds
+  unfolding maxIds
+  names-fit j h =
+      let below : j < length (take (job .outputs) (job .outs)) = rw (length-take-le (job .outputs) (job .outs) (held .outs)) h in
+      let at = named j below in
+      omega (arith, getD-take (job .outputs) (job .outs) j 0 h, at, idCount-tabled t (job .nodes) (take (job .outputs) (job .outs)), nodes-fit)
+
+  module _ (w : WireTable) (numbers : WireNumbers (tabled t (job .nodes) []) w) where
+    all-numbers : WireNumbers d w
+    all-numbers = same-numbers t (job .nodes) (take (job .outputs) (job .outs)) w numbers
+
+    pub height-fits : w .height ≤ maxIds
+    unfolding rowCount maxRows maxIds maxNodes
+    height-fits = omega (arith, all-numbers .height, held .sizes .rows-most)
+
+    pub head-right : headFrom (w .rows) (w .height) (w .width) (job .switches) (take (job .outputs) (job .outs)) ≡ crossbar d
+    unfolding tabled
+    head-right =
+        rw (held .switches) (head-is d (w .rows) (w .height) (w .width) (all-numbers .row) (all-numbers .height) (all-numbers .width) named)
+
+    -- the cells of the record fit, and the buffer is filled
+    module _ (room : ℕ) (fits : size (crossbar d) ≤ room) where
+      in-room : rowCount d * columnCount d ≤ room
+      unfolding size crossbar
+      in-room = fits
+
+      pub cells-in : CellsFit t (w .rows) (w .columns) (w .width) (job .nodes) room
+      cells-in = cells-fit t (job .nodes) (take (job .outputs) (job .outs)) w (held .terminals) all-numbers (held .facts) room in-room (held .sizes)
+
+      pub cells-right : (s : List ℕ) → s ≡ zeros room → allCells t (w .rows) (w .columns) (w .width) (job .nodes) s ≡ padded room (cells d)
+      cells-right s zero =
+          ap (allCells t (w .rows) (w .columns) (w .width) (job .nodes)) zero
+          ∙ all-right t (job .nodes) (take (job .outputs) (job .outs)) w (held .terminals) all-numbers (held .facts) room in-room
+
+  -- R·C, from a head that is the record
+  module _ (head : Crossbar) (is : head ≡ crossbar d) where
+    pub size-few : head .rows * head .columns ≤ maxRows * maxColumns
+    unfolding crossbar
+    size-few = rw is (mul-le-mul (held .sizes .rows-most) (held .sizes .columns-most))
+
+    size-is : head .rows * head .columns ≡ size (crossbar d)
+    unfolding size
+    size-is = rw is
+
+    -- what a buffer of this length lacks of the cells
+    module _ (room lacks : ℕ) (is-lacks : lacks ≡ head .rows * head .columns - room) where
+      pub size-fits : lacks ≤ 0 → size (crossbar d) ≤ room
+      size-fits none = omega (arith, size-is)
+
+      module _ (m : Mapped) (after : List ℕ) where
+        pub place-short : 0 < lacks → m ≡ mapped (refused 14 0) → after ≡ zeros room → Gives (placed d room) room m after
+        unfolding placed lowest unless bufferOf
+        place-short short a b =
+            let o : placed d room ≡ refused 14 0 = rw (lt-ltb room (size (crossbar d)) (omega (arith, size-is))) in
+            record { answer = a ∙ ap mapped (sym o); buffer = b ∙ ap (bufferOf room (λ (w : Whole). w .codes)) (sym o) }
+
+        pub place-done :
+            lacks ≤ 0
+            → m ≡ record { refusal = record { number = 0; line = 0 }; head = head }
+            → after ≡ padded room (cells d)
+            → Gives (placed d room) room m after
+        unfolding placed lowest unless bufferOf mapped refusalOf numberOf lineOf valueOf
+        place-done none a b =
+            let o : placed d room ≡ done (record { head = crossbar d; codes = cells d }) =
+            rw (le-ltb room (size (crossbar d)) (size-fits none)) in
+            record {
+              answer = a ∙ rw is (ap mapped (sym o));
+              buffer = b ∙ ap (bufferOf room (λ (w : Whole). w .codes)) (sym o);
+            }
 
 -- the outcome of a job whose reading has a number
 refused-by :
@@ -50,92 +137,51 @@ unfolding jobRead refusalOf numberOf lineOf
 refused-by (done d) r e h = absurd (h (ap (λ (q : JobRead). q .refusal .number) e))
 refused-by (refused k l) r e h = rw e
 
-module _ (s before after : List ℕ) (m : Mapped) (r : JobRead) (answer : r ≡ jobRead (accepted s)) where
+module _ (s : List ℕ) (r : JobRead) (t : List ℕ) (read : Answered (accepted s) jobRead flat (4 * maxIds) r t) where
   pub map-refused :
-      (r .refusal .number ≡ 0 → ⊥)
+      (room : ℕ) (m : Mapped) (after : List ℕ)
+      → (r .refusal .number ≡ 0 → ⊥)
       → m ≡ mapped (refused (r .refusal .number) (r .refusal .line))
-      → after ≡ zeros (length before)
-      → MapAnswers s before after m
+      → after ≡ zeros room
+      → Gives (mapJob s room) room m after
   unfolding mapJob _then_ bufferOf
-  map-refused h a b = given s before after m (refused (r .refusal .number) (r .refusal .line)) (rw (refused-by (accepted s) r answer h)) a b
+  map-refused room m after h a b =
+      let o : mapJob s room ≡ refused (r .refusal .number) (r .refusal .line) = rw (refused-by (accepted s) r (read .answer) h) in
+      record { answer = a ∙ ap mapped (sym o); buffer = b ∙ ap (bufferOf room (λ (w : Whole). w .codes)) (sym o) }
 
-module _
-    (s : List ℕ)
-    (r : JobRead)
-    (answer : r ≡ jobRead (accepted s))
-    (read : r .refusal .number ≡ 0)
-    (xs ls hs ts : List ℕ)
-    (holds : Holds (table (accepted s)) xs ls hs ts)
-  where
-    -- the diagram in the arrays
-    abbrev held : Diagram
-    held = stored (r .job .switches) (r .job .one) (r .job .nodes) xs ls hs ts (take (r .job .outputs) (r .job .outs))
-
-    held-is : (d : Diagram) → accepted s ≡ done d → held ≡ d
+  module _ (none : r .refusal .number ≡ 0) where
+    -- the diagram in the table is the job's
+    held-is : (d : Diagram) → accepted s ≡ done d → jobIn t (r .job) ≡ d
     unfolding jobOf padded
     held-is d found =
-        rw (read-is s r answer d found)
-        (rw (take-append-seam (d .outs) (zeros (maxOutputs - length (d .outs)))) (job-stored s d xs ls hs ts found holds))
+        rw (read-is s r (read .answer) d found)
+        (rw (take-append-seam (d .outs) (zeros (maxOutputs - length (d .outs)))) (flat-tabled s d r t read found))
 
-    pub outs-long : r .job .outputs ≤ length (r .job .outs)
+    same-switches : (d : Diagram) → accepted s ≡ done d → r .job .switches ≡ (jobIn t (r .job)) .switches
     unfolding jobOf
-    outs-long =
-        let found = read-done s r answer read in
+    same-switches d found = rw (held-is d found) (ap (λ (j : Job). j .switches) (read-is s r (read .answer) d found))
+
+    outs-long : (d : Diagram) → accepted s ≡ done d → r .job .outputs ≤ length (r .job .outs)
+    unfolding jobOf
+    outs-long d found =
+        let few = accepted-job s d found .sizes .outs-most in
+        rw (read-is s r (read .answer) d found) (rw (length-padded maxOutputs (d .outs) few) few)
+
+    pub job-held : JobHeld t (r .job)
+    job-held =
+        let found = read-done s r (read .answer) none in
         let d = found .0 in
-        let few = accepted-job s d (found .1) .sizes .outs-most in
-        rw (read-is s r answer d (found .1)) (rw (length-padded maxOutputs (d .outs) few) few)
+        let job = accepted-job s d (found .1) in
+        let is = held-is d (found .1) in
+        record {
+          terminals = flat-terminals s d r t read (found .1);
+          switches = same-switches d (found .1);
+          outs = outs-long d (found .1);
+          facts = rw is (job .facts);
+          sizes = rw is (job .sizes);
+        }
 
-    pub held-facts : Facts held
-    held-facts = let found = read-done s r answer read in rw (held-is (found .0) (found .1)) (accepted-job s (found .0) (found .1) .facts)
-
-    pub held-sizes : Sizes held
-    held-sizes = let found = read-done s r answer read in rw (held-is (found .0) (found .1)) (accepted-job s (found .0) (found .1) .sizes)
-
-    pub held-few : (r .job .nodes ≤ maxNodes) × (r .job .outputs ≤ maxOutputs) × (r .job .outputs ≤ length (r .job .outs))
-    held-few = (nodes-few s r answer read, outs-few s r answer read, outs-long)
-
-    -- R·C is small
-    pub cells-few : (m n : ℕ) → m ≡ rowCount held → n ≡ columnCount held → m * n ≤ maxRows * maxColumns
-    cells-few m n rows columns =
-        rw (rows, columns) (mul-le-mul (held-sizes .rows-most) (held-sizes .columns-most))
-
-    pub cells-fit : (m n room : ℕ) → m ≡ rowCount held → n ≡ columnCount held → m * n ≤ room → size (crossbar held) ≤ room
-    unfolding size crossbar
-    cells-fit m n room rows columns fits = rw (rows, columns) at fits
-
-    module _ (before after : List ℕ) (m : Mapped) where
-      -- map's outcome, but for ground 14
-      map-is : mapJob s (length before) ≡ unless (lowest ((14 when ltb (length before) (size (crossbar held))) ∷ [])) 0 (done (record { head = crossbar held; codes = cells held }))
-      unfolding mapJob _then_
-      map-is = let found = read-done s r answer read in rw (found .1) (rw (held-is (found .0) (found .1)))
-
-      pub map-short :
-          (rows columns : ℕ)
-          → rows ≡ rowCount held
-          → columns ≡ columnCount held
-          → length before < rows * columns
-          → m ≡ mapped (refused 14 0)
-          → after ≡ zeros (length before)
-          → MapAnswers s before after m
-      unfolding lowest unless size crossbar bufferOf
-      map-short rows columns is-rows is-columns short a b =
-          let less : length before < rowCount held * columnCount held = rw (is-rows, is-columns) at short in
-          given s before after m (refused 14 0) (map-is ∙ rw (lt-ltb (length before) (rowCount held * columnCount held) less)) a b
-
-      pub map-placed :
-          size (crossbar held) ≤ length before
-          → m ≡ record { refusal = r .refusal; head = crossbar held }
-          → after ≡ padded (length before) (cells held)
-          → MapAnswers s before after m
-      unfolding lowest unless mapped refusalOf numberOf lineOf valueOf bufferOf jobRead
-      map-placed fits a b =
-          given s before after m (done (record { head = crossbar held; codes = cells held }))
-          (map-is ∙ rw (le-ltb (length before) (size (crossbar held)) fits))
-          (a ∙ no-refusal)
-          b
-        where
-          no-refusal : _≡_ {A = Mapped} (record { refusal = r .refusal; head = crossbar held }) (record { refusal = record { number = 0; line = 0 }; head = crossbar held })
-          no-refusal =
-              let found = read-done s r answer read in
-              let none : r .refusal ≡ record { number = 0; line = 0 } = ap (λ (q : JobRead). q .refusal) answer ∙ rw (found .1) in
-              ap (λ (q : Refusal). record { refusal = q; head = crossbar held }) none
+    pub map-is : (room : ℕ) → placed (jobIn t (r .job)) room ≡ mapJob s room
+    unfolding mapJob _then_ placed
+    map-is room =
+        let found = read-done s r (read .answer) none in rw (found .1, held-is (found .0) (found .1))

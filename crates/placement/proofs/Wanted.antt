@@ -1,5 +1,4 @@
--- The stores give the cells of the placement: the on cells and the edges of a diagram held in flat arrays, stored into zeros, are the
--- cells of the diagram, and each has its place in the buffer. Assumes nothing.
+-- What is to stand at each place of the buffer: the on cell of a `b` label, the literal of an edge, or 0.
 use Prim.Native.Nat.{ℕ, zero, suc, _+_, _-_, _*_, _/_, _%_, _≤_, _<_}
 use mathlib.Core.Path.{_≡_, refl, sym, ap, _∙_}
 use mathlib.Core.Logic.{⊎-elim}
@@ -16,10 +15,18 @@ use Rattle.diagram.specs.Diagram.{Diagram, idCount, switchAt, labelAt}
 use Rattle.diagram.specs.Wires.{hasRow, hasColumn, rowOf, columnOf, rowCount, columnCount}
 use Rattle.diagram.specs.Facts.{Facts}
 use Rattle.placement.specs.Placement.{codeAt, cells}
-use Rattle.placement.specs.Stores.{either, ownPlace, edgePlace, edgeCode}
+use Rattle.placement.specs.Filling.{choose, edgeCode}
 use Rattle.placement.proofs.Places.{within-rows, column-below}
 use Rattle.placement.proofs.Sentences.{childAt, literal, edgeRow, edgeColumn, IsEdge, Placed, own, step, stored, both-on, placed, edge-placed, edge-within}
 use Rattle.placement.proofs.Filled.{getD-zeros}
+
+-- where the cell of a `b` label stands in the buffer, and that of the edge from i to k
+unfoldable pub ownPlace : Diagram → ℕ → ℕ
+ownPlace d i = rowOf d i * columnCount d + columnOf d i
+
+unfoldable pub edgePlace : Diagram → ℕ → ℕ → ℕ
+edgePlace d i k =
+    choose (hasRow d i && hasColumn d k) (rowOf d i * columnCount d + columnOf d k) (rowOf d k * columnCount d + columnOf d i)
 
 -- where row and column meet in a grid
 below-grid : (m n r c : ℕ) → r < m → c < n → r * n + c < m * n
@@ -39,7 +46,7 @@ past-padded n s p h =
 
 -- the place of an edge, by its row and its column
 edge-place : (d : Diagram) (i k : ℕ) → edgePlace d i k ≡ edgeRow d i k * columnCount d + edgeColumn d i k
-unfolding edgePlace edgeRow edgeColumn either
+unfolding edgePlace edgeRow edgeColumn choose
 edge-place d i k =
     ⊎-elim
     (λ (both : hasRow d i && hasColumn d k ≡ true). rw (both, edgeRow, edgeColumn))
@@ -47,7 +54,7 @@ edge-place d i k =
     (by-test (hasRow d i && hasColumn d k))
 
 edge-code : (d : Diagram) (i : ℕ) (side : Bool) → codeOf (literal d i side) ≡ edgeCode side (switchAt d i)
-unfolding edgeCode either
+unfolding edgeCode choose
 edge-code d i true = refl
 edge-code d i false = refl
 

@@ -1,4 +1,4 @@
 pub mod Placement
 pub mod Map
-pub mod Stores
 pub mod Answer
+pub mod Filling

@@ -1,17 +1,23 @@
 // Map: job text in, crossbar out.
 use crate::Mapped;
-use crate::place;
+use crate::filling::all_cells;
+use crate::record::head_of;
 use cells::Crossbar;
 use common::MAX_OUTPUTS;
 use common::Refusal;
 use common::clear;
-use diagram::counts::column_count;
-use diagram::counts::row_count;
-use jobs::table::fields_of;
-use jobs::table::read_table;
+use diagram::table::TABLE;
+use diagram::wires::number_wires;
+use jobs::Job;
+use jobs::table::read_diagram;
 ghost use mathlib.Core.Path.{_≡_};
-ghost use Rattle.common.specs.Outcome.{refused};
-ghost use Rattle.placement.specs.Answer.{mapped, MapAnswers};
+ghost use Prim.Native.Nat.{_-_};
+ghost use lib.ListN.{length};
+ghost use Rattle.common.specs.Lists.{zeros};
+ghost use Rattle.common.specs.Outcome.{refused, Answered};
+ghost use Rattle.placement.specs.Answer.{mapped};
+ghost use Rattle.placement.specs.Filling.{placed, jobIn, JobHeld};
+ghost use Rattle.placement.specs.Map.{mapJob};
 
 // A refusal: "0 as .. field of a record".
 fn refuse(refusal: Refusal) -> Mapped
@@ -29,41 +35,56 @@ fn refuse(refusal: Refusal) -> Mapped
     }
 }
 
-// Document 01: the crossbar of a job. Grounds 1 to 11, then 14.
-pub fn map(text: &[u8], cells: &mut [u8]) -> Mapped
-    ensures { λ r. ⌜ MapAnswers (now (text .entry)) (now (cells .entry)) (now (cells .exit)) r ⌝ }
+// Ground 14: how many bytes a buffer lacks.
+fn lacking(room: usize, size: usize) -> usize
+    ensures { λ r. ⌜ r ≡ size - room ⌝ }
 {
-    clear(cells);
-    let table = read_table(text);
-    let read = table.read;
-    let refusal = read.refusal;
-    if refusal.number != 0 {
-        return refuse(refusal);
-    }
-    let fields = fields_of(table);
-    let job = read.job;
-    let outs = job.outs;
+    if room < size { size - room } else { 0 }
+}
+
+// Ground 14, or the cells and the record of an accepted job, into a buffer of zeros.
+fn place(table: &[u16; TABLE], job: Job, cells: &mut [u8]) -> Mapped
+    requires { ⌜ JobHeld (now table) job ⌝ }
+    requires { ⌜ now cells ≡ zeros (length (now cells)) ⌝ }
+    ensures { λ r. ⌜ Answered (placed (jobIn (now (table .entry)) job) (length (now (cells .entry)))) mapped (λ w. w .codes) (length (now (cells .entry))) r (now (cells .exit)) ⌝ }
+{
     let n = job.nodes as usize;
-    let k = job.outputs as usize;
-    let rows = row_count(&fields.ts, &outs, job.one, n, k);
-    let columns = column_count(&fields.ts, job.one, n);
-    if cells.len() < rows * columns {
+    let outs = job.outs;
+    let wires = number_wires(table, n);
+    let rows = wires.rows;
+    let columns = wires.columns;
+    let head = head_of(
+        &rows,
+        wires.height,
+        wires.width,
+        job.switches,
+        job.outputs as usize,
+        &outs,
+    );
+    let size = head.rows as usize * head.columns as usize;
+    if 0 < lacking(cells.len(), size) {
         return refuse(Refusal {
             number: 14,
             line: 0,
         });
     }
-    let head = place(
-        job.switches,
-        job.one,
-        n,
-        k,
-        &fields.xs,
-        &fields.ls,
-        &fields.hs,
-        &fields.ts,
-        &outs,
-        cells,
-    );
-    Mapped { refusal, head }
+    all_cells(table, &rows, &columns, wires.width, n, cells);
+    Mapped {
+        refusal: Refusal { number: 0, line: 0 },
+        head,
+    }
+}
+
+// Document 01: the crossbar of a job. Grounds 1 to 11, then 14.
+pub fn map(text: &[u8], cells: &mut [u8]) -> Mapped
+    ensures { λ r. ⌜ Answered (mapJob (now (text .entry)) (length (now (cells .entry)))) mapped (λ w. w .codes) (length (now (cells .entry))) r (now (cells .exit)) ⌝ }
+{
+    clear(cells);
+    let mut table = [0u16; TABLE];
+    let read = read_diagram(text, &mut table);
+    let refusal = read.refusal;
+    if refusal.number != 0 {
+        return refuse(refusal);
+    }
+    place(&table, read.job, cells)
 }

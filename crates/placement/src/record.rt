@@ -1,17 +1,17 @@
 // The record of a crossbar.
-use crate::numbers::MAX_IDS;
 use cells::Crossbar;
+use common::MAX_IDS;
 use common::MAX_OUTPUTS;
 use diagram::counts::names_zero;
 ghost use mathlib.Core.Path.{_≡_};
-ghost use Prim.Native.Nat.{ℕ, _+_, _<_, _≤_};
+ghost use Prim.Native.Nat.{ℕ, _<_, _≤_};
 ghost use lib.ListN.{length, getD, take};
-ghost use Rattle.common.specs.Limits.{maxNodes, maxOutputs};
-ghost use Rattle.placement.specs.Stores.{outRowIn, headFrom};
+ghost use Rattle.common.specs.Limits.{maxIds, maxOutputs};
+ghost use Rattle.placement.specs.Filling.{outRowIn, headFrom};
 
 // The row of an output: that of the id it names, or for id 0 the last row, without cells.
 fn out_row(rows: &[u16; MAX_IDS], height: u16, id: usize) -> u16
-    requires { ⌜ id < 2 + maxNodes ⌝ }
+    requires { ⌜ id < maxIds ⌝ }
     ensures { λ r. ⌜ r ≡ outRowIn (now (rows .entry)) height id ⌝ }
 {
     if id == 0 { height } else { rows[id] }
@@ -26,8 +26,8 @@ pub fn head_of(
     k: usize,
     outs: &[u16; MAX_OUTPUTS],
 ) -> Crossbar
-    requires { ⌜ (k ≤ maxOutputs) × (k ≤ length (now outs)) × (height ≤ 2 + maxNodes) ⌝ }
-    requires { ⌜ ((j : ℕ) → j < k → getD (now outs) j 0 < 2 + maxNodes) ⌝ }
+    requires { ⌜ (k ≤ maxOutputs) × (k ≤ length (now outs)) × (height ≤ maxIds) ⌝ }
+    requires { ⌜ ((j : ℕ) → j < k → getD (now outs) j 0 < maxIds) ⌝ }
     ensures { λ r. ⌜ r ≡ headFrom (now (rows .entry)) height width v (take k (now (outs .entry))) ⌝ }
 {
     let mut out_rows = [0u16; MAX_OUTPUTS];

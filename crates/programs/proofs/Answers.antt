@@ -13,9 +13,10 @@ use Rattle.common.specs.Outcome.{Outcome, done, _then_, numberOf, refusalOf, va
 use Rattle.figures.specs.Line.{linesOf, lineEnd}
 use Rattle.cells.specs.declared.Crossbar.{Crossbar}
 use Rattle.cells.specs.Record.{Whole}
+use Rattle.common.specs.Outcome as outcome
 use Rattle.placement.specs.declared.Mapped.{Mapped}
 use Rattle.placement.specs.Map.{mapJob}
-use Rattle.placement.specs.Answer.{mapped, MapAnswers}
+use Rattle.placement.specs.Answer.{mapped}
 use Rattle.conduction.specs.declared.Lighted.{Lighted}
 use Rattle.conduction.specs.Light.{Lit, light, lighted, Answers}
 use Rattle.listings.specs.declared.printing.Printed.{Printed}
@@ -63,7 +64,7 @@ lit-as : (n m : ℕ) (u v : List ℕ) → n ≡ m → u ≡ v → _≡_ {A = Lit
 lit-as n m u v e f = rw (e, f)
 
 -- map, into the program's buffer
-module _ (s before after : List ℕ) (m : Mapped) (a : MapAnswers s before after m) (room : length before ≡ maxRows * maxColumns) (short : length s ≤ maxInput) where
+module _ (s : List ℕ) (size : ℕ) (after : List ℕ) (m : Mapped) (a : outcome.Answered (mapJob s size) mapped (λ (w : Whole). w .codes) size m after) (room : size ≡ maxRows * maxColumns) (short : length s ≤ maxInput) where
   is-mapped : m ≡ mapped (mapJob s (maxRows * maxColumns))
   is-mapped = a .answer ∙ ap (λ (n : ℕ). mapped (mapJob s n)) room
 
@@ -84,7 +85,7 @@ module _ (s before after : List ℕ) (m : Mapped) (a : MapAnswers s before after
       let e : mapJob s (maxRows * maxColumns) ≡ done w = d .1 in
       let head : m .head ≡ w .head = ap (λ (q : Mapped). q .head) (is-mapped ∙ ap mapped e) in
       let codes : after ≡ padded (maxRows * maxColumns) (w .codes) =
-      a .cells ∙ ap (λ (k : ℕ). bufferOf k (λ w. w .codes) (mapJob s k)) room ∙ ap (bufferOf (maxRows * maxColumns) (λ w. w .codes)) e
+      a .buffer ∙ ap (λ (k : ℕ). bufferOf k (λ w. w .codes) (mapJob s k)) room ∙ ap (bufferOf (maxRows * maxColumns) (λ w. w .codes)) e
       in
       let q = answered-as _ _ _ _ n r out head codes p in
       said-as n _ out _ _ (map-prints s short w e)

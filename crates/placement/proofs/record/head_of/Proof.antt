@@ -1,14 +1,14 @@
--- `placement::record::head_of` meets its contract: before each output the rows of those before it are in the table. Assumes nothing.
+-- `placement::record::head_of` meets its contract: before each output the rows of those before it are in the table.
 use Prim.Native.Nat.{_-_, _≤_, _<_}
 use mathlib.Core.Path.{_≡_, refl, _∙_}
 use mathlib.Core.List.{map}
 use native.Mathlib.Omega.{arith}
 use lib.ListN.{length, take, length-set}
 use borrow.Author.Needs.{needs}
-use Rattle.common.specs.Limits.{maxNodes, maxOutputs}
+use Rattle.common.specs.Limits.{maxIds, maxNodes, maxOutputs}
 use Rattle.common.specs.Lists.{padded}
-use Rattle.placement.specs.Stores.{outRowIn}
-use Rattle.placement.proofs.Running.{byte-most}
+use Rattle.placement.specs.Filling.{outRowIn}
+use Rattle.diagram.proofs.Running.{byte-most}
 use Rattle.placement.proofs.Heads.{rows-more, head-from}
 use Rattle.placement.proofs.record.head_of.Statement.{statement}
 use Rattle.placement.proofs.record.head_of.Tie as tie
@@ -34,7 +34,7 @@ element-copy-out-out-row : tie.Need-element-copy-out-out-row Inv-loop μ-loop
 element-copy-out-out-row c = omega arith
 
 cast-out-row : tie.Need-cast-out-row Inv-loop μ-loop
-unfolding maxNodes
+unfolding maxIds maxNodes
 cast-out-row c = omega (arith, c .before .before .before .pre .1 (c .before .before .loop .j) (omega arith))
 
 out-row-requires : tie.Need-out-row-requires Inv-loop μ-loop
@@ -74,7 +74,7 @@ cast-t20 : tie.Need-cast-t20 Inv-loop μ-loop
 cast-t20 c = search needs
 
 add-t21 : tie.Need-add-t21 Inv-loop μ-loop
-unfolding maxNodes
+unfolding maxIds maxNodes
 add-t21 c = record { fits = omega (arith, byte-most (c .names-zero .result)) }
 
 cast-t22 : tie.Need-cast-t22 Inv-loop μ-loop
