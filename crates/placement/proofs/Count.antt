@@ -1,5 +1,5 @@
 -- Document 01, "Placement": "So R rows plus C columns equal N + 1, plus the number of `b` labels (terminal 1's included), plus 1 if an
--- output names 0." Proved of the rows and columns as defined. Assumes nothing.
+-- output names 0." Proved of the rows and columns as defined.
 use Prim.Native.Nat.{ℕ, zero, suc, _+_, _≤_, _<_}
 use mathlib.Core.Path.{_≡_, refl}
 use mathlib.Core.Logic.{⊎-elim}
@@ -12,14 +12,7 @@ use Rattle.common.proofs.Lists.{by-test, equal-or-not}
 use Rattle.diagram.specs.Diagram.{Diagram, idCount, entry, entries, terminal, labelAt}
 use Rattle.diagram.specs.Wires.{hasRow, hasColumn, owners, rowOwners, columnOwners, rowCount, columnCount, namesZero}
 use Rattle.diagram.specs.Facts.{Facts}
-
--- a label `b`
-unfoldable pub hasBoth : Diagram → ℕ → Bool
-hasBoth d i = eqb (labelAt d i) 3
-
--- how many of the ids are labelled `b`; terminal 0 has no label, so they are terminal 1 and nodes
-unfoldable pub bothCount : Diagram → ℕ
-bothCount d = length (owners (hasBoth d) (idCount d))
+use Rattle.placement.specs.Sentences.{hasBoth, bothCount}
 
 -- one id more: one owner more if it has the wire
 pub length-owners : (has : ℕ → Bool) (i : ℕ) → length (owners has (suc i)) ≡ length (owners has i) + bit (has i)

@@ -1,5 +1,4 @@
--- Document 01, "Placement", in its own sentences, each proved of the rows, columns and cells as defined, for every diagram that
--- breaks none of the grounds. Assumes nothing.
+-- Document 01, "Placement", in its own sentences: every diagram that breaks none of the grounds has them.
 use Prim.Native.Nat.{ℕ, zero, suc, _+_, _*_, _≤_, _<_}
 use mathlib.Core.Path.{_≡_, refl, sym, ap, _∙_}
 use mathlib.Core.Logic.{_⊎_, inl, inr, ⊎-elim}
@@ -18,43 +17,11 @@ use Rattle.diagram.specs.Faults.{alike}
 use Rattle.diagram.specs.Wires.{hasRow, hasColumn, owners, rowOwners, columnOwners, rowOf, columnOf, namesZero, rowCount, columnCount}
 use Rattle.diagram.specs.Facts.{Facts}
 use Rattle.placement.specs.Placement.{edge, meeting, codeAt, cells, outRow}
+use Rattle.placement.specs.Sentences.{childAt, literal, edgeRow, edgeColumn, IsEdge, Placed, own, step, Sentences}
 use Rattle.placement.proofs.Owners.{number-below, owner-has, owner-below, owner-number, number-injective}
 use Rattle.placement.proofs.Places.{within-rows, column-below, row-owner, column-owner, meeting-same, meeting-down, meeting-up, meeting-over}
 use Rattle.placement.proofs.Readings as readings
-use Rattle.placement.proofs.Count.{by-label, label-zero, label-one, labelled}
-
--- the child that an id's switch selects, and the cell of the edge to it: "`no X` for L and `yes X` for H"
-abbrev pub childAt : Diagram → ℕ → Bool → ℕ
-childAt d i false = lowAt d i
-childAt d i true = highAt d i
-
-abbrev pub literal : Diagram → ℕ → Bool → Cell
-literal d i false = No (switchAt d i)
-literal d i true = Yes (switchAt d i)
-
--- "It stands at the parent's row and child's column if both exist, otherwise at the child's row and parent's column."
-unfoldable pub edgeRow : Diagram → ℕ → ℕ → ℕ
-edgeRow d parent child = elim (hasRow d parent && hasColumn d child) [ true ↦ rowOf d parent | false ↦ rowOf d child ]
-
-unfoldable pub edgeColumn : Diagram → ℕ → ℕ → ℕ
-edgeColumn d parent child = elim (hasRow d parent && hasColumn d child) [ true ↦ columnOf d child | false ↦ columnOf d parent ]
-
--- an edge with a cell: from a node to a child of it other than 0
-pub record IsEdge (d : Diagram) (i : ℕ) (side : Bool) : Type 0 where
-  pub least : 2 ≤ i
-  pub most : i < idCount d
-  pub present : childAt d i side ≡ 0 → ⊥
-
--- what stands at row r and column c where the cell there is not off: the on cell of a `b` label, or the literal of an edge
-pub data Placed (d : Diagram) (r c : ℕ) : Type 0 where
-  own : (i : ℕ) → i < idCount d → labelAt d i ≡ 3 → r ≡ rowOf d i → c ≡ columnOf d i → codeAt d r c ≡ 1 → Placed d r c
-  step :
-      (i : ℕ) (side : Bool)
-      → IsEdge d i side
-      → r ≡ edgeRow d i (childAt d i side)
-      → c ≡ edgeColumn d i (childAt d i side)
-      → codeAt d r c ≡ codeOf (literal d i side)
-      → Placed d r c
+use Rattle.placement.proofs.Count.{by-label, label-zero, label-one, labelled, wires-count}
 
 -- the two wires of an edge from i to k: the row of one of them and the column of the other
 record Ends (d : Diagram) (i k : ℕ) : Type 0 where
@@ -87,11 +54,11 @@ columnless-zero : (d : Diagram) → hasColumn d 0 ≡ false
 unfolding hasColumn
 columnless-zero d = rw label-zero
 
-pub row-not-zero : (d : Diagram) (i : ℕ) → hasRow d i ≡ true → 1 ≤ i
+row-not-zero : (d : Diagram) (i : ℕ) → hasRow d i ≡ true → 1 ≤ i
 row-not-zero d zero h = absurd (true-or-false (hasRow d 0) h (readings.zero-rowless d))
 row-not-zero d (suc i) h = omega arith
 
-pub column-not-zero : (d : Diagram) (i : ℕ) → hasColumn d i ≡ true → 1 ≤ i
+column-not-zero : (d : Diagram) (i : ℕ) → hasColumn d i ≡ true → 1 ≤ i
 column-not-zero d zero h = absurd (true-or-false (hasColumn d 0) h (columnless-zero d))
 column-not-zero d (suc i) h = omega arith
 
@@ -132,25 +99,25 @@ module _ (d : Diagram) where
   first-column = refl
 
   -- "in rising id"
-  pub rows-rise : (i k : ℕ) → i < k → hasRow d i ≡ true → rowOf d i < rowOf d k
+  rows-rise : (i k : ℕ) → i < k → hasRow d i ≡ true → rowOf d i < rowOf d k
   unfolding rowOf
   rows-rise i k lower row = number-below (hasRow d) k i row lower
 
-  pub columns-rise : (i k : ℕ) → i < k → hasColumn d i ≡ true → columnOf d i < columnOf d k
+  columns-rise : (i k : ℕ) → i < k → hasColumn d i ≡ true → columnOf d i < columnOf d k
   unfolding columnOf
   columns-rise i k lower column = number-below (hasColumn d) k i column lower
 
   -- no two ids have one row or one column
-  pub rows-differ : (i k : ℕ) → hasRow d i ≡ true → hasRow d k ≡ true → rowOf d i ≡ rowOf d k → i ≡ k
+  rows-differ : (i k : ℕ) → hasRow d i ≡ true → hasRow d k ≡ true → rowOf d i ≡ rowOf d k → i ≡ k
   unfolding rowOf
   rows-differ i k = number-injective (hasRow d) i k
 
-  pub columns-differ : (i k : ℕ) → hasColumn d i ≡ true → hasColumn d k ≡ true → columnOf d i ≡ columnOf d k → i ≡ k
+  columns-differ : (i k : ℕ) → hasColumn d i ≡ true → hasColumn d k ≡ true → columnOf d i ≡ columnOf d k → i ≡ k
   unfolding columnOf
   columns-differ i k = number-injective (hasColumn d) i k
 
   -- each wire but the last row without cells is that of one id
-  pub row-owned : (r : ℕ) → r < length (rowOwners d) → (i : ℕ) × (i < idCount d) × (hasRow d i ≡ true) × (rowOf d i ≡ r)
+  row-owned : (r : ℕ) → r < length (rowOwners d) → (i : ℕ) × (i < idCount d) × (hasRow d i ≡ true) × (rowOf d i ≡ r)
   unfolding rowOwners rowOf
   row-owned r below = (
     getD (rowOwners d) r 0,
@@ -159,7 +126,7 @@ module _ (d : Diagram) where
     owner-number (hasRow d) (idCount d) r below,
   )
 
-  pub column-owned : (c : ℕ) → c < columnCount d → (i : ℕ) × (i < idCount d) × (hasColumn d i ≡ true) × (columnOf d i ≡ c)
+  column-owned : (c : ℕ) → c < columnCount d → (i : ℕ) × (i < idCount d) × (hasColumn d i ≡ true) × (columnOf d i ≡ c)
   unfolding columnCount columnOwners columnOf
   column-owned c below = (
     getD (columnOwners d) c 0,
@@ -174,7 +141,7 @@ module _ (d : Diagram) where
   stored r c h k = getD-grid (rowCount d) (columnCount d) (codeAt d) r c 0 h k
 
   -- where the row of p and the column of q meet
-  pub code-meeting :
+  code-meeting :
       (p q : ℕ)
       → hasRow d p ≡ true
       → p < idCount d
@@ -184,17 +151,6 @@ module _ (d : Diagram) where
   unfolding codeAt
   code-meeting p q row p-most column q-most =
       rw (row-owner d p row p-most, column-owner d q column q-most)
-
-  pub stored-meeting :
-      (p q : ℕ)
-      → hasRow d p ≡ true
-      → p < idCount d
-      → hasColumn d q ≡ true
-      → q < idCount d
-      → getD (cells d) (rowOf d p * columnCount d + columnOf d q) 0 ≡ codeOf (meeting d p q)
-  stored-meeting p q row p-most column q-most =
-      stored (rowOf d p) (columnOf d q) (within-rows d p row p-most) (column-below d q column q-most)
-      ∙ code-meeting p q row p-most column q-most
 
   -- the wires of a `b` label
   both-row : (i : ℕ) → labelAt d i ≡ 3 → (hasRow d i ≡ true) × (hasColumn d i ≡ true)
@@ -308,7 +264,7 @@ module _ (d : Diagram) where
       (equal-or-not p q)
 
   -- "one last row without cells": past the rows of ids every cell is off
-  pub ownerless-off : (r c : ℕ) → length (rowOwners d) ≤ r → codeAt d r c ≡ 0
+  ownerless-off : (r c : ℕ) → length (rowOwners d) ≤ r → codeAt d r c ≡ 0
   unfolding codeAt codeOf meeting
   ownerless-off r c past = rw (List·getD-eq-default (rowOwners d) 0 past)
 
@@ -324,7 +280,7 @@ module _ (d : Diagram) where
       (below-or-not r (length (rowOwners d)))
 
   -- "All other cells are off."
-  pub others-off : (r c : ℕ) → c < columnCount d → (Placed d r c → ⊥) → codeAt d r c ≡ 0
+  others-off : (r c : ℕ) → c < columnCount d → (Placed d r c → ⊥) → codeAt d r c ≡ 0
   others-off r c within none =
       ⊎-elim
       (λ (off : codeAt d r c ≡ 0). off)
@@ -332,7 +288,7 @@ module _ (d : Diagram) where
       (equal-or-not (codeAt d r c) 0)
 
   -- "If any output names 0, one last row without cells serves all such outputs."
-  pub last-row-empty :
+  last-row-empty :
       namesZero d ≡ true
       → (outRow d 0 ≡ length (rowOwners d))
       × (rowCount d ≡ outRow d 0 + 1)
@@ -341,12 +297,12 @@ module _ (d : Diagram) where
   last-row-empty names = (refl, rw (names, rowCount), λ c within. ownerless-off (length (rowOwners d)) c (omega arith))
 
 -- "Columns go to `b` terminal 1 first"
-pub column-zero : (d : Diagram) → d .one ≡ 3 → (columnOf d 1 ≡ 0) × (hasColumn d 1 ≡ true)
+column-zero : (d : Diagram) → d .one ≡ 3 → (columnOf d 1 ≡ 0) × (hasColumn d 1 ≡ true)
 unfolding hasColumn
 column-zero d b = (first-column d, rw (label-one, b))
 
 -- "Row 0 belongs to terminal 1"
-pub row-zero : (d : Diagram) → Facts d → (rowOf d 1 ≡ 0) × (hasRow d 1 ≡ true)
+row-zero : (d : Diagram) → Facts d → (rowOf d 1 ≡ 0) × (hasRow d 1 ≡ true)
 row-zero d facts = (readings.row-zero d, readings.one-row d facts)
 
 module _ (d : Diagram) (facts : Facts d) where
@@ -360,7 +316,7 @@ module _ (d : Diagram) (facts : Facts d) where
   child-unlike i true least most = facts .node i least most .high-unlike
 
   -- an edge without the parent's row or the child's column has the child's row and the parent's column
-  pub otherwise-wires :
+  otherwise-wires :
       (i : ℕ) (side : Bool)
       → IsEdge d i side
       → hasRow d i && hasColumn d (childAt d i side) ≡ false
@@ -441,25 +397,6 @@ module _ (d : Diagram) (facts : Facts d) where
       rw (f .at-row, f .at-column)
       (within-rows d (f .p) (f .row) (f .row-most), column-below d (f .q) (f .column) (f .column-most))
 
-  -- "The edge from parent to child is `no X` for L and `yes X` for H."
-  pub low-edge :
-      (i : ℕ)
-      → 2 ≤ i
-      → i < idCount d
-      → (lowAt d i ≡ 0 → ⊥)
-      → codeAt d (edgeRow d i (lowAt d i)) (edgeColumn d i (lowAt d i)) ≡ 3 + 2 * switchAt d i
-  unfolding codeOf
-  low-edge i least most present = edge-placed i false (record { least = least; most = most; present = present })
-
-  pub high-edge :
-      (i : ℕ)
-      → 2 ≤ i
-      → i < idCount d
-      → (highAt d i ≡ 0 → ⊥)
-      → codeAt d (edgeRow d i (highAt d i)) (edgeColumn d i (highAt d i)) ≡ 2 + 2 * switchAt d i
-  unfolding codeOf
-  high-edge i least most present = edge-placed i true (record { least = least; most = most; present = present })
-
   -- the children of a node differ
   side-of : (i k : ℕ) (a b : Bool) → 2 ≤ i → i < idCount d → i ≡ k → childAt d i a ≡ childAt d k b → a ≡ b
   side-of i k false false least most e f = refl
@@ -468,7 +405,7 @@ module _ (d : Diagram) (facts : Facts d) where
   side-of i k true false least most e f = absurd (facts .node i least most .children-differ (sym (rw (← e) at f)))
 
   -- no two edges stand at one place
-  pub one-literal :
+  one-literal :
       (i k : ℕ) (a b : Bool)
       → IsEdge d i a
       → IsEdge d k b
@@ -493,3 +430,23 @@ module _ (d : Diagram) (facts : Facts d) where
       (m .ids)
       (rw (p, q) (n .ids))
       in (one .0, side-of i k a b (e .least) (e .most) (one .0) (one .1))
+
+pub sentences : (d : Diagram) → Facts d → Sentences d
+sentences d facts =
+    record {
+      row-zero = row-zero d facts;
+      rows-rise = rows-rise d;
+      row-owned = row-owned d;
+      last-row-empty = last-row-empty d;
+      column-zero = column-zero d;
+      columns-rise = columns-rise d;
+      column-owned = column-owned d;
+      wires-count = wires-count d facts;
+      both-on = both-on d;
+      edge-placed = edge-placed d facts;
+      edge-within = edge-within d facts;
+      otherwise-wires = otherwise-wires d facts;
+      one-literal = one-literal d facts;
+      others-off = others-off d;
+      stored = stored d;
+    }

@@ -1,5 +1,5 @@
 -- Every mapped crossbar passes ground 12: its sizes are in range, its cells are R·C with codes at most 1 + 2·V, its output rows are
--- below R and the unused ones 0. Assumes nothing.
+-- below R and the unused ones 0.
 use Prim.Native.Nat.{ℕ, zero, suc, _+_, _-_, _*_, _≤_, _<_}
 use mathlib.Core.Path.{_≡_, refl}
 use mathlib.Core.Logic.{⊎-elim}
@@ -12,7 +12,7 @@ use lib.Dec.{eqb, leb, ltb}
 use borrow.Author.Tests.{lt-ltb, le-leb}
 use Rattle.common.specs.Limits.{maxRows, maxColumns, maxSwitches, maxOutputs}
 use Rattle.common.specs.Lists.{zeros, padded, tab, grid, all-of}
-use Rattle.common.proofs.Lists.{and-left, and-right, and-both, equal-or-not, length-grid, length-padded}
+use Rattle.common.proofs.Lists.{and-both, equal-or-not, length-grid, length-padded, all-of-grid, all-of-map, all-of-zeros}
 use Rattle.cells.specs.Code.{codeOf}
 use Rattle.cells.specs.Record.{size, inRange, sound}
 use Rattle.diagram.specs.Diagram.{Diagram}
@@ -22,43 +22,8 @@ use Rattle.placement.specs.Placement.{codeAt, cells, outRow, crossbar}
 use Rattle.placement.proofs.Places.{within-rows}
 use Rattle.placement.proofs.Readings.{one-row, outRow-below, out-on-row}
 use Rattle.placement.proofs.Count.{id-count}
-use Rattle.placement.proofs.Sentences.{Placed, own, step, literal, IsEdge, placed}
-
--- tests over all entries of lists that are put together
-all-of-append : (f : ℕ → Bool) (s t : List ℕ) → all-of f s ≡ true → all-of f t ≡ true → all-of f (s ++ t) ≡ true
-unfolding all-of
-all-of-append f [] t p q = q
-all-of-append f (a ∷ s) t p q =
-    and-both (f a) (all-of f (s ++ t)) (and-left (f a) (all-of f s) p) (all-of-append f s t (and-right (f a) (all-of f s) p) q)
-
-all-of-single : (f : ℕ → Bool) (a : ℕ) → f a ≡ true → all-of f (a ∷ []) ≡ true
-unfolding all-of
-all-of-single f a p = and-both (f a) true p refl
-
-all-of-tab : (f : ℕ → Bool) (n : ℕ) (g : ℕ → ℕ) → ((c : ℕ) → c < n → f (g c) ≡ true) → all-of f (tab n g) ≡ true
-unfolding tab all-of
-all-of-tab f zero g h = refl
-all-of-tab f (suc n) g h =
-    all-of-append f (tab n g) (g n ∷ []) (all-of-tab f n g (λ c below. h c (omega arith))) (all-of-single f (g n) (h n (omega arith)))
-
-all-of-grid :
-    (f : ℕ → Bool) (m n : ℕ) (g : ℕ → ℕ → ℕ) → ((r c : ℕ) → r < m → c < n → f (g r c) ≡ true) → all-of f (grid m n g) ≡ true
-unfolding grid all-of
-all-of-grid f zero n g h = refl
-all-of-grid f (suc m) n g h =
-    all-of-append f (grid m n g) (tab n (g m)) (all-of-grid f m n g (λ r c below. h r c (omega arith))) (all-of-tab f n (g m) (λ c. h m c (omega arith)))
-
-all-of-map :
-    (f : ℕ → Bool) (g : ℕ → ℕ) (l : List ℕ) → ((j : ℕ) → j < length l → f (g (getD l j 0)) ≡ true) → all-of f (map g l) ≡ true
-unfolding all-of
-all-of-map f g [] h = refl
-all-of-map f g (a ∷ l) h =
-    and-both (f (g a)) (all-of f (map g l)) (h 0 (omega arith)) (all-of-map f g l (λ j below. h (suc j) (omega arith)))
-
-all-zeros : (n : ℕ) → all-of (λ b. eqb b 0) (zeros n) ≡ true
-unfolding all-of
-all-zeros zero = refl
-all-zeros (suc n) = all-zeros n
+use Rattle.placement.specs.Sentences.{Placed, own, step, literal, IsEdge}
+use Rattle.placement.proofs.Sentences.{placed}
 
 module _ (d : Diagram) where
   -- the cells are R·C, no more and no fewer
@@ -75,7 +40,7 @@ module _ (d : Diagram) where
   unfolding crossbar padded
   outs-unused =
       rw (drop-at (map (outRow d) (d .outs)) (zeros (maxOutputs - length (map (outRow d) (d .outs)))) (length (d .outs)) (length-map (d .outs) (outRow d)))
-      (all-zeros (maxOutputs - length (map (outRow d) (d .outs))))
+      (all-of-zeros (λ b. eqb b 0) (maxOutputs - length (map (outRow d) (d .outs))) refl)
 
   -- "32 output rows"
   pub outs-count : Sizes d → length (crossbar d .outs) ≡ maxOutputs

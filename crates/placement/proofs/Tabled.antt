@@ -23,7 +23,7 @@ use Rattle.diagram.proofs.TableLaws.{idCount-tabled, entry-tabled}
 use Rattle.placement.specs.Placement.{cells}
 use Rattle.placement.specs.Filling.{choose, cellPlace, edgePlaceIn, edgeCode, withOn, withEdge, withCells, withNodes, allCells, EdgeFits, CellsFit}
 use Rattle.placement.proofs.Count.{label-zero}
-use Rattle.placement.proofs.Sentences.{childAt, IsEdge}
+use Rattle.placement.specs.Sentences.{childAt, IsEdge}
 use Rattle.placement.proofs.Filled.{Filled, Partly, Stored, partly-zeros, all-filled, one-store}
 use Rattle.placement.proofs.Wanted.{ownPlace, edgePlace, Whose, of-label, of-edge, target-long, label-in, edge-in, whose}
 

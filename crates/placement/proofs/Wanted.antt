@@ -17,7 +17,8 @@ use Rattle.diagram.specs.Facts.{Facts}
 use Rattle.placement.specs.Placement.{codeAt, cells}
 use Rattle.placement.specs.Filling.{choose, edgeCode}
 use Rattle.placement.proofs.Places.{within-rows, column-below}
-use Rattle.placement.proofs.Sentences.{childAt, literal, edgeRow, edgeColumn, IsEdge, Placed, own, step, stored, both-on, placed, edge-placed, edge-within}
+use Rattle.placement.specs.Sentences.{childAt, literal, edgeRow, edgeColumn, IsEdge, Placed, own, step}
+use Rattle.placement.proofs.Sentences.{stored, both-on, placed, edge-placed, edge-within}
 use Rattle.placement.proofs.Filled.{getD-zeros}
 
 -- where the cell of a `b` label stands in the buffer, and that of the edge from i to k

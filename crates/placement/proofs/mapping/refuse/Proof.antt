@@ -1,4 +1,4 @@
--- `placement::mapping::refuse` meets its contract. Assumes nothing.
+-- `placement::mapping::refuse` meets its contract.
 use mathlib.Core.Path.{refl}
 use Rattle.common.specs.Limits.{maxOutputs}
 use Rattle.common.specs.Outcome.{numberOf, lineOf, refusalOf, valueOf}
