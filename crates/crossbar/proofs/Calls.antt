@@ -17,9 +17,9 @@ use Rattle.listings.specs.declared.printing.Printed.{Printed}
 use Rattle.listings.specs.Listing.{print}
 use Rattle.listings.specs.Printing.{printedOf, Answered as PrintAnswered}
 use Rattle.crossbar.specs.Bytes.{holdsRecord, recordFrom}
-use Rattle.crossbar.specs.Host.{numberUnit, packed, mostNumber, ByGround, packedFrom, ofRecord, hostLight, hostPrint, LightCall, PrintCall}
+use Rattle.crossbar.specs.Host.{numberUnit, packed, mostNumber, packedFrom, ofRecord, hostLight, hostPrint, LightCall, PrintCall}
 use Rattle.crossbar.proofs.Records.{none-held, one-held}
-use Rattle.crossbar.proofs.Numbers.{packed-is, number-most, light-numbered, print-numbered, walk-numbered}
+use Rattle.crossbar.proofs.Numbers.{ByGround, packed-is, number-most, light-numbered, print-numbered, walk-numbered}
 
 -- the answer from what a call beneath hands over
 answered : {A : Type 0} (value : A → ℕ) (o : Outcome A) (refusal : Refusal) (v r : ℕ)

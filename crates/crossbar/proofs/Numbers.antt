@@ -24,7 +24,12 @@ use Rattle.placement.specs.Map.{mapJob}
 use Rattle.conduction.specs.Light.{light}
 use Rattle.listings.specs.Listing.{print}
 use Rattle.listings.specs.Loading.{Listed, cellFault, withCell, outRowFault, loadEnd, loadOuts, loadCells, sizeFault, loadFrom, load}
-use Rattle.crossbar.specs.Host.{packed, mostNumber, ByGround, of-done, of-refused, packedFrom}
+use Rattle.crossbar.specs.Host.{packed, mostNumber, packedFrom}
+
+-- an outcome that is done, or whose number is one of 1 to 15
+pub data ByGround {A : Type 0} : Outcome A → Type 0 where
+  of-done : (a : A) → ByGround (done a)
+  of-refused : {k n : ℕ} → 1 ≤ k → k ≤ mostNumber → ByGround (refused k n)
 
 -- whether every number of some grounds is at most 15
 unfoldable pub within : List Ground → Bool

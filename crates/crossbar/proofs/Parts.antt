@@ -8,9 +8,9 @@ use Rattle.common.specs.Limits.{maxRows, maxColumns, maxNodes, maxOutputs, maxT
 use Rattle.common.specs.Outcome.{Outcome, done, refused, numberOf}
 use Rattle.cells.specs.Record.{Whole}
 use Rattle.jobs.specs.Job.{walk}
-use Rattle.crossbar.specs.Host.{numberUnit, packed, mostNumber, ByGround, of-done, of-refused, cellsDue, forRecord, hostMap, hostLoad, ofRecord, hostLight, hostPrint}
+use Rattle.crossbar.specs.Host.{numberUnit, packed, mostNumber, cellsDue, forRecord, hostMap, hostLoad, ofRecord, hostLight, hostPrint}
 use Rattle.crossbar.specs.Parts.{numberPart, lowPart, Parts, CallsRead}
-use Rattle.crossbar.proofs.Numbers.{within, lowest-within, then-numbered, unless-numbered, map-numbered, walk-numbered, light-numbered, print-numbered, load-numbered}
+use Rattle.crossbar.proofs.Numbers.{ByGround, of-done, of-refused, within, lowest-within, then-numbered, unless-numbered, map-numbered, walk-numbered, light-numbered, print-numbered, load-numbered}
 use Rattle.crossbar.proofs.Ends.{Ends, ends-done, ends-refused, mostLine, map-ends, walk-ends, light-ends, print-ends, load-ends}
 
 -- where values up to `most` and lines up to b are below 2 to the 56th, an outcome is read back from its answer

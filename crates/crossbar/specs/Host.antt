@@ -1,14 +1,16 @@
 -- The five calls of the host library. Document 01, "The services": "The same calls are offered to the buyer's host program, written in
 -- C, on numbers and byte slices." Each answers one number: the refusal's number times 2 to the 56th, plus the line; or, where nothing is
 -- refused, the call's value. Parts.antt says that these are read back from it.
-use Prim.Native.Nat.{ℕ, _+_, _*_, _^_, _≤_}
+use Prim.Native.Nat.{ℕ, _+_, _*_, _^_}
 use mathlib.Core.Path.{_≡_}
-use mathlib.Core.Bool.{not}
+use mathlib.Core.Bool.{true, false, not, _&&_}
 use mathlib.Core.List.{List, [], _∷_}
 use lib.ListN.{length}
-use lib.Dec.{ltb}
+use lib.Dec.{eqb, ltb}
 use Rattle.common.specs.declared.Refusal.{Refusal}
+use Rattle.common.specs.Lists.{zeros}
 use Rattle.common.specs.Outcome.{Outcome, done, refused, _then_, _when_, lowest, unless, Answered}
+use Rattle.cells.specs.declared.Crossbar.{Crossbar}
 use Rattle.cells.specs.Record.{Whole, size}
 use Rattle.jobs.specs.Job.{walk}
 use Rattle.placement.specs.Map.{mapJob}
@@ -30,14 +32,17 @@ packed value (refused k n) = k * numberUnit + n
 unfoldable pub mostNumber : ℕ
 mostNumber = 15
 
--- an outcome that is done, or whose number is one of 1 to 15
-pub data ByGround {A : Type 0} : Outcome A → Type 0 where
-  of-done : (a : A) → ByGround (done a)
-  of-refused : {k n : ℕ} → 1 ≤ k → k ≤ mostNumber → ByGround (refused k n)
-
 -- the same number from the refusal, whose number is 0 where nothing is refused, and the value that a call hands over
 unfoldable pub packedFrom : Refusal → ℕ → ℕ
 packedFrom r value = packed (λ v. v) (unless (r .number) (r .line) (done value))
+
+-- a record for a buffer of n bytes, after the refusal of a call beneath: ground 14 where the buffer is shorter than a record, line 0
+unfoldable pub delivery : Refusal → Crossbar → ℕ → Outcome Crossbar
+delivery refusal x n = unless (refusal .number) (refusal .line) (unless (lowest ((14 when ltb n recordLength) ∷ [])) 0 (done x))
+
+-- the cells that this call left in their buffer: zeros in their place where only the record's buffer is too short
+unfoldable pub cellsLeft : Refusal → ℕ → List ℕ → List ℕ
+cellsLeft refusal n cells = elim (eqb (refusal .number) 0 && ltb n recordLength) [ true ↦ zeros (length cells) | false ↦ cells ]
 
 -- a crossbar for two buffers: ground 14 also where the record's is shorter than a record, line 0
 unfoldable pub forRecord : ℕ → Outcome Whole → Outcome Whole

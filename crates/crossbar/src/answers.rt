@@ -5,12 +5,13 @@ use cells::Crossbar;
 use common::Refusal;
 use common::clear;
 ghost use mathlib.Core.Path.{_≡_};
-ghost use Prim.Native.Nat.{ℕ, _+_, _*_, _≤_};
+ghost use Prim.Native.Nat.{_+_, _*_, _≤_};
 ghost use lib.ListN.{length};
 ghost use Rattle.common.specs.Lists.{zeros};
-ghost use Rattle.common.specs.Outcome.{Outcome, refusalOf, valueOf, bufferOf};
-ghost use Rattle.cells.specs.Record.{Whole, no-record};
-ghost use Rattle.crossbar.specs.Host.{numberUnit, mostNumber, ByGround, packedFrom, forRecord, Delivered};
+ghost use Rattle.common.specs.Outcome.{Answered};
+ghost use Rattle.cells.specs.Record.{size};
+ghost use Rattle.crossbar.specs.Bytes.{recordBytes};
+ghost use Rattle.crossbar.specs.Host.{numberUnit, mostNumber, packed, packedFrom, delivery, cellsLeft};
 
 // What the number of a refusal counts for in an answer: 2 to the 56th.
 const NUMBER_UNIT: u64 = 72057594037927936;
@@ -39,14 +40,10 @@ pub fn refuse(out: &mut [u8], number: u32) -> u64
 // record.
 pub fn deliver(refusal: Refusal, x: Crossbar, head: &mut [u8], cells: &mut [u8]) -> u64
     requires { ⌜ refusal .number ≤ mostNumber ⌝ }
-    ensures { λ r.
-        ⌜ ((o : Outcome Whole) (m : ℕ)
-        → ByGround o
-        → refusal ≡ refusalOf o
-        → x ≡ valueOf no-record (λ w. w .head) o
-        → length (now (cells .entry)) ≡ m
-        → now (cells .entry) ≡ bufferOf m (λ w. w .codes) o
-        → Delivered (forRecord (length (now (head .entry))) o) (length (now (head .entry))) m r (now (head .exit)) (now (cells .exit))) ⌝ }
+    ensures answer { λ r.
+        ⌜ Answered (delivery refusal x (length (now (head .entry)))) (packed size) recordBytes (length (now (head .entry))) r (now (head .exit)) ⌝ }
+    ensures cells_left { λ r.
+        ⌜ now (cells .exit) ≡ cellsLeft refusal (length (now (head .entry))) (now (cells .entry)) ⌝ }
 {
     if refusal.number != 0 {
         clear(head);

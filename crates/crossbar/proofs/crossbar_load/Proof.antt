@@ -3,7 +3,7 @@ use mathlib.Core.Path.{_≡_}
 use native.Mathlib.Omega.{arith}
 use lib.ListN.{length}
 use Rattle.crossbar.specs.Host.{hostLoad}
-use Rattle.crossbar.proofs.Deliveries.{load-beneath}
+use Rattle.crossbar.proofs.Deliveries.{load-beneath, delivered}
 use borrow.Author.Needs.{needs}
 use Rattle.crossbar.proofs.crossbar_load.Statement.{statement}
 use Rattle.crossbar.proofs.crossbar_load.Tie as tie
@@ -31,7 +31,7 @@ returns c =
     let args = at-load .before .before .before .before .before .args in
     let beneath = load-beneath (args .text .now) (length (args .cells .now)) (at-load .load .result) _ (at-load .load .ensures) in
     let long : length (at-load .load .last .1 .0) ≡ length (args .cells .now) = omega arith in
-    at-deliver .deliver .ensures _ _ (beneath .numbered) (beneath .refusal-is) (beneath .record-is) long (beneath .cells-are)
+    delivered _ _ _ _ _ _ _ _ _ beneath long (at-deliver .deliver .ensures .0) (at-deliver .deliver .ensures .1)
 
 pub crossbar-load-spec : {M : Type 1} → statement M
 crossbar-load-spec =

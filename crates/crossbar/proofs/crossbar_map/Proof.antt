@@ -3,7 +3,7 @@ use mathlib.Core.Path.{_≡_}
 use native.Mathlib.Omega.{arith}
 use lib.ListN.{length}
 use Rattle.crossbar.specs.Host.{hostMap}
-use Rattle.crossbar.proofs.Deliveries.{map-beneath}
+use Rattle.crossbar.proofs.Deliveries.{map-beneath, delivered}
 use borrow.Author.Needs.{needs}
 use Rattle.crossbar.proofs.crossbar_map.Statement.{statement}
 use Rattle.crossbar.proofs.crossbar_map.Tie as tie
@@ -31,7 +31,7 @@ returns c =
     let args = at-map .before .before .before .before .before .args in
     let beneath = map-beneath (args .text .now) (args .cells .now) _ (at-map .map .result) (at-map .map .ensures) in
     let long : length (at-map .map .last .1 .0) ≡ length (args .cells .now) = omega arith in
-    at-deliver .deliver .ensures _ _ (beneath .numbered) (beneath .refusal-is) (beneath .record-is) long (beneath .cells-are)
+    delivered _ _ _ _ _ _ _ _ _ beneath long (at-deliver .deliver .ensures .0) (at-deliver .deliver .ensures .1)
 
 pub crossbar-map-spec : {M : Type 1} → statement M
 crossbar-map-spec =

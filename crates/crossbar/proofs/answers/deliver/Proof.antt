@@ -1,14 +1,13 @@
 -- `crossbar::answers::deliver` meets its contract, by the case of the outcome.
 use Prim.Native.Nat.{_≤_}
-use mathlib.Core.Path.{refl, ap, _∙_}
+use mathlib.Core.Path.{refl, _∙_}
 use native.Mathlib.Omega.{arith}
 use native.Mathlib.Nat.{mul-le-mul-right}
 use lib.ListN.{length}
 use Rattle.common.specs.Limits.{maxOutputs}
-use Rattle.common.specs.Lists.{zeros}
 use Rattle.crossbar.specs.Bytes.{recordLength}
 use Rattle.crossbar.specs.Host.{mostNumber}
-use Rattle.crossbar.proofs.Deliveries.{delivered-refused, delivered-short, delivered-done}
+use Rattle.crossbar.proofs.Deliveries.{written-refused, written-short, written-done, left-refused, left-short, left-done}
 use borrow.Author.Needs.{needs}
 use Rattle.crossbar.proofs.answers.deliver.Statement.{statement}
 use Rattle.crossbar.proofs.answers.deliver.Tie as tie
@@ -23,10 +22,12 @@ same-length : tie.Need-same-length
 same-length c = search needs
 
 returns : tie.Need-returns
-returns c o m numbered e f long held =
+returns c =
     let args = c .before .before .before .before .before .before .before .before .before .args in
-    delivered-refused (args .refusal) (args .x) (length (args .head .now)) m (c .pack .result) (args .cells .now) _ (args .cells .now) o
-    (c .before .before .before .before .before .if1 .taken) (c .pack .ensures) (c .before .before .before .clear .ensures) refl numbered e held
+    let some = c .before .before .before .before .before .if1 .taken in (
+      written-refused (args .refusal) (args .x) (length (args .head .now)) (c .pack .result) _ some (c .pack .ensures) (c .before .before .before .clear .ensures),
+      left-refused (args .refusal) (length (args .head .now)) (args .cells .now) some,
+    )
 
 clear-requires-2 : tie.Need-clear-requires-2
 clear-requires-2 c κs = search needs
@@ -43,11 +44,14 @@ same-length-3 c = search needs
 
 returns-2 : tie.Need-returns-2
 unfolding recordLength maxOutputs
-returns-2 c o m numbered e f long held =
+returns-2 c =
     let args = c .before .before .before .before .before .before .before .before .before .before .before .before .before .args in
-    delivered-short (args .refusal) (args .x) (length (args .head .now)) m (c .before .before .refuse .result) (args .cells .now) _ _ o
-    (c .before .before .before .before .before .before .before .before .before .if1 .left) (c .before .before .before .before .before .before .before .before .if2 .taken) (c .before .before .refuse .ensures .0) (c .before .before .refuse .ensures .1)
-    (c .before .before .before .before .before .before .clear2 .ensures ∙ ap zeros long) numbered e
+    let none = c .before .before .before .before .before .before .before .before .before .if1 .left in
+    let short = c .before .before .before .before .before .before .before .before .if2 .taken in (
+      written-short (args .refusal) (args .x) (length (args .head .now)) (c .before .before .refuse .result) _ none short
+          (c .before .before .refuse .ensures .0) (c .before .before .refuse .ensures .1),
+      c .before .before .before .before .before .before .clear2 .ensures ∙ left-short (args .refusal) (length (args .head .now)) (args .cells .now) none short,
+    )
 
 write-record-requires : tie.Need-write-record-requires
 unfolding recordLength maxOutputs
@@ -70,10 +74,13 @@ same-length-4 c = search needs
 
 returns-3 : tie.Need-returns-3
 unfolding recordLength maxOutputs
-returns-3 c o m numbered e f long held =
+returns-3 c =
     let args = c .before .before .before .before .before .before .before .before .before .before .before .args in
-    delivered-done (args .refusal) (args .x) (length (args .head .now)) m _ (args .cells .now) _ (args .cells .now) o
-    (c .before .before .before .before .before .before .before .if1 .left) (c .before .before .before .before .before .before .if2 .left) refl (c .before .before .before .before .write-record .ensures) refl numbered e f held
+    let none = c .before .before .before .before .before .before .before .if1 .left in
+    let room = c .before .before .before .before .before .before .if2 .left in (
+      written-done (args .refusal) (args .x) (length (args .head .now)) _ _ none room refl (c .before .before .before .before .write-record .ensures),
+      left-done (args .refusal) (length (args .head .now)) (args .cells .now) none room,
+    )
 
 pub deliver-spec : {M : Type 1} → statement M
 deliver-spec =
