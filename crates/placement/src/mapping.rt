@@ -9,12 +9,17 @@ use common::clear;
 use diagram::table::TABLE;
 use diagram::wires::number_wires;
 use jobs::Job;
+use jobs::JobRead;
 use jobs::table::read_diagram;
 ghost use mathlib.Core.Path.{_≡_};
-ghost use Prim.Native.Nat.{_-_};
+ghost use Prim.Native.Nat.{_-_, _*_};
 ghost use lib.ListN.{length};
+ghost use Rattle.common.specs.Limits.{maxIds};
 ghost use Rattle.common.specs.Lists.{zeros};
 ghost use Rattle.common.specs.Outcome.{refused, Answered};
+ghost use Rattle.jobs.specs.Answer.{jobRead};
+ghost use Rattle.jobs.specs.Job.{accepted};
+ghost use Rattle.jobs.specs.Spread.{flat};
 ghost use Rattle.placement.specs.Answer.{mapped};
 ghost use Rattle.placement.specs.Filling.{placed, jobIn, JobHeld};
 ghost use Rattle.placement.specs.Map.{mapJob};
@@ -75,16 +80,23 @@ fn place(table: &[u16; TABLE], job: Job, cells: &mut [u8]) -> Mapped
     }
 }
 
+// The job that is mapped, and its diagram in the table. Grounds 1 to 11.
+fn read(text: &[u8], table: &mut [u16; TABLE]) -> JobRead
+    ensures { λ r. ⌜ Answered (accepted (now (text .entry))) jobRead flat (4 * maxIds) r (now (table .exit)) ⌝ }
+{
+    read_diagram(text, table)
+}
+
 // Document 01: the crossbar of a job. Grounds 1 to 11, then 14.
 pub fn map(text: &[u8], cells: &mut [u8]) -> Mapped
     ensures { λ r. ⌜ Answered (mapJob (now (text .entry)) (length (now (cells .entry)))) mapped (λ w. w .codes) (length (now (cells .entry))) r (now (cells .exit)) ⌝ }
 {
     clear(cells);
     let mut table = [0u16; TABLE];
-    let read = read_diagram(text, &mut table);
-    let refusal = read.refusal;
+    let job = read(text, &mut table);
+    let refusal = job.refusal;
     if refusal.number != 0 {
         return refuse(refusal);
     }
-    place(&table, read.job, cells)
+    place(&table, job.job, cells)
 }

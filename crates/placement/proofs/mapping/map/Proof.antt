@@ -9,8 +9,8 @@ use Rattle.placement.proofs.mapping.map.Tie as tie
 clear-requires : tie.Need-clear-requires
 clear-requires c κs = search needs
 
-read-diagram-requires : tie.Need-read-diagram-requires
-read-diagram-requires c κs = search needs
+read-requires : tie.Need-read-requires
+read-requires c κs = search needs
 
 refuse-requires : tie.Need-refuse-requires
 refuse-requires c κs = search needs
@@ -20,12 +20,12 @@ same-length c = search needs
 
 returns : tie.Need-returns
 returns c =
-    map-refused _ _ _ (c .before .before .before .before .read-diagram .ensures) _ _ _ (c .before .if1 .taken) (c .refuse .ensures) (c .before .before .before .before .before .before .before .before .clear .ensures)
+    map-refused _ _ _ (c .before .before .before .before .read .ensures) _ _ _ (c .before .if1 .taken) (c .refuse .ensures) (c .before .before .before .before .before .before .before .before .clear .ensures)
 
 place-requires : tie.Need-place-requires
 place-requires c κs =
     let cleared = c .before .before .before .before .before .before .before .before .before in
-    (job-held _ _ _ (c .before .before .before .before .before .read-diagram .ensures) (c .before .before .if1 .left), cleared .clear .ensures ∙ ap zeros (sym (cleared .clear .kept .0)))
+    (job-held _ _ _ (c .before .before .before .before .before .read .ensures) (c .before .before .if1 .left), cleared .clear .ensures ∙ ap zeros (sym (cleared .clear .kept .0)))
 
 same-length-2 : tie.Need-same-length-2
 same-length-2 c = search needs
@@ -33,14 +33,14 @@ same-length-2 c = search needs
 returns-2 : tie.Need-returns-2
 returns-2 c =
     let placed = rw (c .before .before .before .before .before .before .before .before .before .before .before .before .clear .kept .0) at (c .before .before .place .ensures) in
-    rw (map-is _ _ _ (c .before .before .before .before .before .before .before .before .read-diagram .ensures) (c .before .before .before .before .before .if1 .left) _) at placed
+    rw (map-is _ _ _ (c .before .before .before .before .before .before .before .before .read .ensures) (c .before .before .before .before .before .if1 .left) _) at placed
 
 pub map-spec : {M : Type 1} → statement M
 map-spec =
     tie.close
     (tie.spec
     clear-requires
-    read-diagram-requires
+    read-requires
     refuse-requires
     same-length
     returns
