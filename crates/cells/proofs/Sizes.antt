@@ -1,4 +1,4 @@
--- What a record in range and a sound record have: the sizes within their limits, and the cells.
+-- What a record in range, a sound record and a setting have: the sizes within their limits, the cells, and a byte for each switch.
 use Prim.Native.Nat.{ℕ, _+_, _*_, _≤_, _<_}
 use mathlib.Core.Path.{_≡_, refl, sym, _∙_}
 use mathlib.Core.Bool.{Bool, true, false, _&&_}
@@ -7,12 +7,13 @@ use native.Mathlib.Omega.{arith}
 use native.Mathlib.Nat.{le-trans, mul-le-mul-left, mul-le-mul-right}
 use lib.ListN.{length, take, drop}
 use lib.Dec.{eqb, leb, ltb}
-use borrow.Author.Tests.{leb-true}
+use borrow.Author.Tests.{leb-true, eqb-true}
 use Rattle.common.specs.Limits.{maxRows, maxColumns, maxSwitches, maxOutputs}
 use Rattle.common.specs.Lists.{all-of}
 use Rattle.common.proofs.Lists.{and-left, and-right}
 use Rattle.cells.specs.declared.Crossbar.{Crossbar}
 use Rattle.cells.specs.Record.{inRange, size, sound}
+use Rattle.cells.specs.Setting.{isSetting}
 
 pub record Sizes (r c v k : ℕ) : Type 0 where
   pub row : 0 < r
@@ -60,10 +61,11 @@ pub sound-by :
 unfolding sound size
 sound-by x cells a b c d e f ea eb ec ed ee ef = rw (sound, ea, eb, ec, ed, ee, ef)
 
--- a sound record's sizes are in range, and the cells are there
+-- a sound record's sizes are in range, and the cells are there, each with a code of its switches
 pub record Sound (x : Crossbar) (cells : List ℕ) : Type 0 where
   pub head : Sizes (x .rows) (x .columns) (x .switches) (x .outputs)
   pub fits : x .rows * x .columns ≤ length cells
+  pub codes : all-of (λ k. leb k (1 + 2 * x .switches)) (take (x .rows * x .columns) cells) ≡ true
 
 pub sound-has : (x : Crossbar) (cells : List ℕ) → sound x cells ≡ true → Sound x cells
 unfolding sound size
@@ -80,4 +82,10 @@ sound-has x cells h =
     record {
       head = sizes (x .rows) (x .columns) (x .switches) (x .outputs) (tests .0);
       fits = leb-true (x .rows * x .columns) (length cells) (tests .1);
+      codes = tests .3;
     }
+
+-- a setting has a byte for each switch
+pub setting-long : (v : ℕ) (s : List ℕ) → isSetting v s ≡ true → length s ≡ v
+unfolding isSetting
+setting-long v s h = eqb-true (length s) v (and-left (eqb (length s) v) (all-of (λ b. leb b 1) s) h)

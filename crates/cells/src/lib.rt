@@ -57,19 +57,8 @@ impl Cell {
     }
 }
 
-// Document 01, "What an output reads": whether a cell conducts under a setting. A switch past the setting's end reads as 0.
-pub fn conducts(cell: Cell, setting: &[u8]) -> bool
-    ensures { λ r. ⌜ r ≡ conducts (now (setting .entry)) cell ⌝ }
-{
-    match cell {
-        Cell::Off => false,
-        Cell::On => true,
-        Cell::Yes(x) => switch_at(setting, x) == 1,
-        Cell::No(x) => switch_at(setting, x) == 0,
-    }
-}
-
-// The same of a cell by its code. Each byte of the setting is 0 or 1.
+// Document 01, "What an output reads": whether the cell of a code conducts under a setting, each byte of which is 0 or 1. A switch past the
+// setting's end reads as 0.
 pub fn conducts_code(code: u8, setting: &[u8]) -> bool
     requires { ⌜ isSetting (length (now setting)) (now setting) ≡ true ⌝ }
     ensures { λ r. ⌜ r ≡ conducts (now (setting .entry)) (cellOf code) ⌝ }

@@ -1,5 +1,4 @@
 -- Lit wires and chains: a wire that is lit after some rounds has a chain from row 0, and at rest a wire with a chain is lit.
--- Assumes nothing.
 use Prim.Native.Nat.{ℕ, zero, suc, _+_, _<_}
 use mathlib.Core.Path.{_≡_, sym, _∙_}
 use mathlib.Core.Logic.{_↔_, ⊎-elim}

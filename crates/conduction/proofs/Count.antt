@@ -1,4 +1,4 @@
--- The count of rounds: it is at rest, it is the least number of rounds at rest, and it is at most R + C − 1. Assumes nothing.
+-- The count of rounds: it is at rest, it is the least number of rounds at rest, and it is at most R + C − 1.
 use Prim.Native.Nat.{ℕ, zero, suc, _+_, _-_, _≤_, _<_}
 use mathlib.Core.Path.{_≡_}
 use mathlib.Core.Logic.{⊎-elim}

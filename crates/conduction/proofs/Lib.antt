@@ -4,8 +4,9 @@ pub mod Settles
 pub mod Count
 pub mod Light
 pub mod Stamps
-pub mod Marks
 pub mod Counting
 pub mod Shown
 pub mod Promise
-pub mod Sides
+pub mod Sorting
+pub mod Parts
+pub mod Turns

@@ -1,5 +1,4 @@
 -- Light's answer: what a record, a setting and an answer have where light does not refuse, and that it refuses by 12, 13 and 14 only.
--- Assumes nothing.
 use Prim.Native.Nat.{ℕ, _+_, _-_, _≤_, _<_}
 use mathlib.Core.Path.{_≡_, refl}
 use mathlib.Core.Logic.{⊎-elim}

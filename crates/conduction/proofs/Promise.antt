@@ -1,24 +1,29 @@
 -- Light's promise: what the rounds leave in the buffer, and the answer and the bytes on each of light's grounds and on none.
--- Assumes nothing.
-use Prim.Native.Nat.{ℕ, zero, suc, _+_, _-_, _≤_, _<_}
+use Prim.Native.Nat.{ℕ, _+_, _-_, _*_, _≤_, _<_}
 use mathlib.Core.Path.{_≡_, refl, sym, ap, _∙_}
 use mathlib.Core.Bool.{Bool, true, false, not}
 use mathlib.Core.List.{List, [], _∷_, _++_}
 use native.Mathlib.Omega.{arith}
-use lib.ListN.{length, drop, replicate}
-use lib.Dec.{ltb}
-use borrow.Author.Tests.{lt-ltb, le-ltb}
-use Rattle.common.specs.Lists.{zeros, padded}
-use Rattle.common.specs.Outcome.{Outcome, done, refused, lowest, unless, numberOf, lineOf, refusalOf, valueOf, bufferOf}
+use native.Mathlib.Nat.{mul-le-mul-right}
+use lib.ListN.{length, getD, take, drop}
+use lib.Seq.{getD-take, length-take-le}
+use lib.Dec.{leb, ltb}
+use borrow.Author.Tests.{leb-true, lt-ltb, le-ltb}
+use Rattle.common.specs.Limits.{maxSwitches}
+use Rattle.common.specs.Lists.{bit, zeros, padded, tab}
+use Rattle.common.proofs.Lists.{eqb-bit, all-of-at, length-tab, getD-tab, length-padded, getD-padded-any, drop-zeros}
+use Rattle.common.specs.Outcome.{Outcome, done, refused, lowest, unless, numberOf, lineOf, refusalOf, valueOf, bufferOf, Answered}
 use Rattle.cells.specs.declared.Crossbar.{Crossbar}
-use Rattle.cells.specs.Conducts.{joins}
+use Rattle.cells.specs.Code.{cellOf}
+use Rattle.cells.specs.Conducts.{conducts, joins}
 use Rattle.cells.specs.Record.{sound}
 use Rattle.cells.specs.Setting.{isSetting}
 use Rattle.conduction.specs.declared.Lighted.{Lighted}
 use Rattle.conduction.specs.Round.{rounds, roundCount, atRest}
 use Rattle.conduction.specs.First.{stampsAfter, withStamp, Rest, Counted, Shown}
-use Rattle.conduction.specs.Light.{Lit, joined, litBy, light, lighted, Answers}
-use Rattle.conduction.proofs.Rounds.{length-rounds}
+use Rattle.conduction.specs.Light.{Lit, joined, litBy, light, lighted}
+use Rattle.conduction.specs.Wires.{codes, passes, passing, onCodes, CodeTable, Lightable}
+use Rattle.conduction.proofs.Rounds.{length-rounds, rounds-same, rests-same}
 use Rattle.conduction.proofs.Count.{count-only}
 use Rattle.conduction.proofs.Light.{sound-row, light-accepts}
 use Rattle.conduction.proofs.Stamps.{stamps-lit}
@@ -40,11 +45,76 @@ module _ (m n : ℕ) (j : ℕ → ℕ → Bool) (k t : ℕ) (stamps : List ℕ) 
         dark = λ p. absurd (omega arith);
       }
 
--- zeros past a place
-drop-zeros : (k n : ℕ) → drop k (zeros n) ≡ zeros (n - k)
-drop-zeros zero n = let e : n ≡ n - 0 = omega arith in ap zeros e
-drop-zeros (suc k) zero = let e : 0 ≡ 0 - suc k = omega arith in ap zeros e
-drop-zeros (suc k) (suc n) = let e : n - k ≡ suc n - suc k = omega arith in drop-zeros k n ∙ ap zeros e
+-- what is shown hangs on the cells of the crossbar alone
+pub shown-as :
+    (m n : ℕ) (j j′ : ℕ → ℕ → Bool) (t : ℕ) (before after : List ℕ) → ((r c : ℕ) → r < m → c < n → j r c ≡ j′ r c)
+    → Shown m n j t before after → Shown m n j′ t before after
+shown-as m n j j′ t before after agree shown =
+    record {
+      count-rests =
+          record {
+            least = λ s h. sym (rests-same m n j j′ agree s) ∙ shown .count-rests .least s h;
+            rests = λ h. sym (rests-same m n j j′ agree t) ∙ shown .count-rests .rests h;
+            most = shown .count-rests .most;
+          };
+      lit = λ h. shown .lit h ∙ ap (λ (s : List ℕ). s ++ drop (m + n) before) (rounds-same m n j j′ agree t);
+      dark = shown .dark;
+    }
+
+-- the table of codes says which cells conduct
+pub table-says :
+    (cells setting wires : List ℕ) (m n : ℕ) → Lightable cells setting m n wires
+    → (r c : ℕ) → r < m → c < n → passing (onCodes setting) cells n r c ≡ joins cells n setting r c
+unfolding passing passes onCodes joins maxSwitches codes
+table-says cells setting wires m n l r c h k =
+    let i = r * n + c in
+    let within : i < m * n = omega (arith, mul-le-mul-right n h) in
+    let f : ℕ → ℕ = λ x. bit (conducts setting (cellOf x)) in
+    let code = getD cells i 0 in
+    let taken : i < length (take (m * n) cells) = rw (length-take-le (m * n) cells (l .cells-fit)) within in
+    let small = leb-true code (1 + 2 * length setting) (rw (getD-take (m * n) cells i 0 within) at (all-of-at (λ x. leb x (1 + 2 * length setting)) (take (m * n) cells) i (l .codes-fit) taken)) in
+    let entry : getD (padded 256 (tab (2 + 2 * length setting) f)) code 0 ≡ f code =
+    getD-padded-any 256 (tab (2 + 2 * length setting) f) code ∙ getD-tab (2 + 2 * length setting) f code 0 (omega arith) in
+    rw entry (eqb-bit (conducts setting (cellOf code)))
+
+table-long : (setting : List ℕ) → length setting ≤ maxSwitches → length (onCodes setting) ≡ codes
+unfolding onCodes codes maxSwitches
+table-long setting h =
+    let f : ℕ → ℕ = λ x. bit (conducts setting (cellOf x)) in
+    length-padded 256 (tab (2 + 2 * length setting) f) (omega (arith, length-tab (2 + 2 * length setting) f))
+
+pub table-is : (setting : List ℕ) → length setting ≤ maxSwitches → CodeTable (onCodes setting)
+unfolding onCodes conducts cellOf bit
+table-is setting h =
+    let f : ℕ → ℕ = λ x. bit (conducts setting (cellOf x)) in
+    record {
+      long = omega (arith, table-long setting h);
+      off = getD-padded-any codes (tab (2 + 2 * length setting) f) 0 ∙ getD-tab (2 + 2 * length setting) f 0 0 (omega arith);
+    }
+
+-- the rounds by the table, of lists as long as there are rows and columns
+module _
+    (cells setting wires : List ℕ)
+    (m n k t : ℕ)
+    (on rows columns stamps after : List ℕ)
+    (l : Lightable cells setting m n wires)
+    (is-on : on ≡ onCodes setting)
+    (long-rows : length rows ≡ m)
+    (long-columns : length columns ≡ n)
+    (counted : Counted (length rows) (length columns) (passing on cells (length columns)) k t stamps)
+  where
+    by-table : Counted m n (passing (onCodes setting) cells n) k t stamps
+    by-table = rw (is-on, long-rows, long-columns) at counted
+
+    pub light-none : m + n ≤ t → after ≡ wires → Shown m n (joins cells n setting) t wires after
+    light-none h e =
+        shown-as m n (passing (onCodes setting) cells n) (joins cells n setting) t wires after (table-says cells setting wires m n l)
+        (shown-none m n (passing (onCodes setting) cells n) k t stamps by-table wires after h e)
+
+    pub light-lit : m + n ≤ k → t < m + n → after ≡ withStamp (m + n) stamps ++ drop (m + n) wires → Shown m n (joins cells n setting) t wires after
+    light-lit room h e =
+        shown-as m n (passing (onCodes setting) cells n) (joins cells n setting) t wires after (table-says cells setting wires m n l)
+        (shown-lit m n (passing (onCodes setting) cells n) k t stamps by-table wires after (l .row-0) room h e)
 
 module _ (x : Crossbar) (cells setting : List ℕ) (room : ℕ) where
   pub by-12 : sound x cells ≡ false → light x cells setting room ≡ refused 12 0
@@ -69,17 +139,20 @@ module _ (x : Crossbar) (cells setting : List ℕ) (room : ℕ) where
   by-15 s t h e = rw (s, t, le-ltb room (x .rows + x .columns) h, e)
 
 module _ (x : Crossbar) (cells setting before after : List ℕ) (r : Lighted) where
+  abbrev Promised : Type 0
+  Promised = Answered (light x cells setting (length before)) lighted (λ a. a .wires) (length before) r after
+
   pub answers-refused :
       (number : ℕ) → light x cells setting (length before) ≡ refused number 0 → r ≡ lighted (refused number 0)
-      → after ≡ zeros (length before) → Answers x cells setting before after r
+      → after ≡ zeros (length before) → Promised
   unfolding bufferOf
-  answers-refused number e answer bytes = record { answer = rw e answer; bytes = rw e bytes }
+  answers-refused number e answer bytes = record { answer = rw e answer; buffer = rw e bytes }
 
   -- where no round up to R + C − 1 is at rest, in a buffer that was cleared
   pub answers-15 :
       (t : ℕ) (cleared : List ℕ) → cleared ≡ zeros (length before) → sound x cells ≡ true → isSetting (x .switches) setting ≡ true → x .rows + x .columns ≤ length before
       → Shown (x .rows) (x .columns) (joins cells (x .columns) setting) t cleared after
-      → x .rows + x .columns ≤ t → r ≡ lighted (refused 15 0) → Answers x cells setting before after r
+      → x .rows + x .columns ≤ t → r ≡ lighted (refused 15 0) → Promised
   unfolding joined
   answers-15 t cleared z s v h shown past answer =
       let row-0 = sound-row x cells s in
@@ -94,7 +167,7 @@ module _ (x : Crossbar) (cells setting before after : List ℕ) (r : Lighted) wh
       (t : ℕ) (cleared : List ℕ) → cleared ≡ zeros (length before) → sound x cells ≡ true → isSetting (x .switches) setting ≡ true → x .rows + x .columns ≤ length before
       → Shown (x .rows) (x .columns) (joins cells (x .columns) setting) t cleared after
       → t < x .rows + x .columns → r ≡ record { refusal = record { number = 0; line = 0 }; rounds = t }
-      → Answers x cells setting before after r
+      → Promised
   unfolding joined litBy lighted refusalOf numberOf lineOf valueOf bufferOf padded
   answers-done t cleared z s v h shown below answer =
       let m = x .rows in
@@ -105,7 +178,7 @@ module _ (x : Crossbar) (cells setting before after : List ℕ) (r : Lighted) wh
       let accepted = light-accepts x cells setting (length before) s v h in
       record {
         answer = rw (accepted, counts) answer;
-        bytes =
+        buffer =
             rw (accepted, counts, length-rounds m n j t)
             (shown .lit below
             ∙ ap (λ (l : List ℕ). rounds m n j t ++ drop (m + n) l) z

@@ -1,5 +1,5 @@
--- The sets of lit wires: their length, their entries, what a round adds, that a lit wire stays lit, and that a set at rest stays.
--- Assumes nothing.
+-- The sets of lit wires: their length, their entries, what a round adds, that a lit wire stays lit, that a set at rest stays, and that they
+-- hang on the cells of the crossbar alone.
 use Prim.Native.Nat.{ℕ, zero, suc, _+_, _-_, _≤_, _<_}
 use mathlib.Core.Path.{_≡_, refl, sym, ap, _∙_}
 use mathlib.Core.Logic.{_⊎_, inl, inr, ⊎-elim}
@@ -160,3 +160,40 @@ module _ (m n : ℕ) (joined : ℕ → ℕ → Bool) where
   pub rounds-after : (t k : ℕ) → atRest m n joined t ≡ true → rounds m n joined (t + k) ≡ rounds m n joined t
   rounds-after t zero h = rw add-zero
   rounds-after t (suc k) h = rw add-suc (rest-same (t + k) (rest-after t k h) ∙ rounds-after t k h)
+
+-- two ways to say which cells conduct that agree on the cells of the crossbar
+tab-same : (n : ℕ) (f g : ℕ → ℕ) → ((i : ℕ) → i < n → f i ≡ g i) → tab n f ≡ tab n g
+unfolding tab
+tab-same zero f g h = refl
+tab-same (suc n) f g h = rw (tab-same n f g (λ i p. h i (omega arith)), h n (omega arith))
+
+some-same : (n : ℕ) (f g : ℕ → Bool) → ((i : ℕ) → i < n → f i ≡ g i) → some-below n f ≡ some-below n g
+unfolding some-below
+some-same zero f g h = refl
+some-same (suc n) f g h = rw (some-same n f g (λ i p. h i (omega arith)), h n (omega arith))
+
+module _ (m n : ℕ) (joined joined′ : ℕ → ℕ → Bool) (agree : (r c : ℕ) → r < m → c < n → joined r c ≡ joined′ r c) where
+  round-same : (set : List ℕ) → round m n joined set ≡ round m n joined′ set
+  unfolding round
+  round-same set =
+      rw (
+        tab-same m
+            (λ r. bit (lit set r || some-below n (λ c. joined r c && lit set (m + c))))
+            (λ r. bit (lit set r || some-below n (λ c. joined′ r c && lit set (m + c))))
+            (λ r p.
+            rw
+            (some-same n (λ c. joined r c && lit set (m + c)) (λ c. joined′ r c && lit set (m + c)) (λ c q. rw (agree r c p q)))),
+        tab-same n
+            (λ c. bit (lit set (m + c) || some-below m (λ r. joined r c && lit set r)))
+            (λ c. bit (lit set (m + c) || some-below m (λ r. joined′ r c && lit set r)))
+            (λ c q. rw (some-same m (λ r. joined r c && lit set r) (λ r. joined′ r c && lit set r) (λ r p. rw (agree r c p q)))),
+      )
+
+  pub rounds-same : (t : ℕ) → rounds m n joined t ≡ rounds m n joined′ t
+  unfolding rounds
+  rounds-same zero = refl
+  rounds-same (suc t) = ap (round m n joined) (rounds-same t) ∙ round-same (rounds m n joined′ t)
+
+  pub rests-same : (t : ℕ) → atRest m n joined t ≡ atRest m n joined′ t
+  unfolding atRest
+  rests-same t = rw (rounds-same t, rounds-same (suc t))

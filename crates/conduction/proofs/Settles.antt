@@ -1,6 +1,5 @@
 -- After R + C − 1 rounds every crossbar is at rest: each round before that adds a wire, row 0 is lit from the start, and there are
 -- R + C wires.
--- Assumes nothing.
 use Prim.Native.Nat.{ℕ, zero, suc, _+_, _-_, _≤_, _<_}
 use mathlib.Core.Path.{_≡_, refl, sym, _∙_}
 use mathlib.Core.Logic.{_⊎_, inl, inr, ⊎-elim}

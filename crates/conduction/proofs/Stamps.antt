@@ -1,5 +1,5 @@
 -- Rounds by stamps: the wires with a stamp after t rounds are those lit after t rounds, and a round changes no stamp just where the
--- rounds are at rest. The reason is that a wire lit before round t has had its neighbours lit by then. Assumes nothing.
+-- rounds are at rest. The reason is that a wire lit before round t has had its neighbours lit by then.
 use Prim.Native.Nat.{ℕ, zero, suc, _+_, _-_, _≤_, _<_}
 use mathlib.Core.Path.{_≡_, refl, sym, ap, _∙_}
 use mathlib.Core.Logic.{_⊎_, inl, inr, ⊎-elim}
@@ -18,6 +18,8 @@ use Rattle.common.proofs.Lists.{
   or-cases,
   or-left,
   or-right,
+  or-false,
+  both-ways,
   by-test,
   true-or-false,
   below-or-not,
@@ -33,16 +35,6 @@ use Rattle.conduction.specs.Round.{lit, start, round, rounds, atRest}
 use Rattle.conduction.specs.Chain.{Wire, row, column, place, Within}
 use Rattle.conduction.specs.First.{meets, stamp, reached, stamped, startStamps, stampsAfter, withStamp}
 use Rattle.conduction.proofs.Rounds.{next, round-lit, wire-at, start-lit, length-rounds, lit-one, one-lit, rounds-bits, rest-same, same-rest}
-
--- two truth values that imply one another
-pub both-ways : (a b : Bool) → (a ≡ true → b ≡ true) → (b ≡ true → a ≡ true) → a ≡ b
-both-ways true b f g = sym (f refl)
-both-ways false true f g = g refl
-both-ways false false f g = refl
-
-pub or-false : (b : Bool) → b || false ≡ b
-or-false true = refl
-or-false false = refl
 
 -- a stamp after a wire is reached or not
 pub stamp-kept : (new : ℕ) (b : Bool) (old : ℕ) → 0 < old → stamp new b old ≡ old
@@ -214,13 +206,13 @@ module _ (m n : ℕ) (joined : ℕ → ℕ → Bool) where
     pub before : (u v : ℕ) → 0 < getD stamps u 0 → getD stamps u 0 < t + 1 → meets m n joined u v ≡ true → 0 < getD stamps v 0
 
   -- the entries after a round: also past the end, where no wire is reached
-  reached-by : (t : ℕ) (stamps : List ℕ) (u v : ℕ) → meets m n joined u v ≡ true → getD stamps u 0 ≡ t + 1 → reached m n joined t stamps v ≡ true
+  pub reached-by : (t : ℕ) (stamps : List ℕ) (u v : ℕ) → meets m n joined u v ≡ true → getD stamps u 0 ≡ t + 1 → reached m n joined t stamps v ≡ true
   unfolding reached
   reached-by t stamps u v e s =
       some-below-at (m + n) (λ w. meets m n joined w v && eqb (getD stamps w 0) (t + 1)) u (meets-below u v e .0)
       (and-both (meets m n joined u v) (eqb (getD stamps u 0) (t + 1)) e (eq-eqb (getD stamps u 0) (t + 1) s))
 
-  reached-is :
+  pub reached-is :
       (t : ℕ) (stamps : List ℕ) (v : ℕ) → reached m n joined t stamps v ≡ true
       → (u : ℕ) × (meets m n joined u v ≡ true) × (getD stamps u 0 ≡ t + 1)
   unfolding reached
@@ -359,7 +351,7 @@ module _ (m n : ℕ) (joined : ℕ → ℕ → Bool) where
     length-stamps zero = length-tab k (λ v. bit (eqb v 0))
     length-stamps (suc t) = length-stamped t (stampsAfter k m n joined t) ∙ length-stamps t
 
-    start-stamp : (v : ℕ) → (getD (startStamps k) v 0 ≡ 0) ⊎ ((getD (startStamps k) v 0 ≡ 1) × (v ≡ 0))
+    pub start-stamp : (v : ℕ) → (getD (startStamps k) v 0 ≡ 0) ⊎ ((getD (startStamps k) v 0 ≡ 1) × (v ≡ 0))
     unfolding startStamps bit
     start-stamp v =
         ⊎-elim
@@ -374,7 +366,7 @@ module _ (m n : ℕ) (joined : ℕ → ℕ → Bool) where
         inl (List·getD-eq-default (startStamps k) 0 past))
         (below-or-not v k)
 
-    start-one : getD (startStamps k) 0 0 ≡ 1
+    pub start-one : getD (startStamps k) 0 0 ≡ 1
     unfolding startStamps bit
     start-one = getD-tab k (λ w. bit (eqb w 0)) 0 0 (omega arith)
 

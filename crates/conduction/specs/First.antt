@@ -1,7 +1,7 @@
 -- Document 01, "Conduction", by stamps: the round in which each wire was first lit. A stamp is 0 for a dark wire, else 1 plus the number
 -- of that round, and row 0, which is lit before round 1, has 1. Stamps stand as the wires do, rows then columns. m, n and joined are
 -- as in Round. There may be more places than wires; those past the last wire are never lit.
-use Prim.Native.Nat.{ℕ, zero, suc, _+_, _-_, _*_, _%_, _≤_, _<_}
+use Prim.Native.Nat.{ℕ, zero, suc, _+_, _-_, _≤_, _<_}
 use mathlib.Core.Path.{_≡_}
 use mathlib.Core.Bool.{Bool, true, false, not, _&&_, _||_}
 use mathlib.Core.List.{List, _++_}
@@ -40,30 +40,6 @@ stampsAfter k m n joined (suc t) = stamped m n joined t (stampsAfter k m n joine
 -- the first k wires, 1 for one with a stamp, 0 for a dark one
 unfoldable pub withStamp : ℕ → List ℕ → List ℕ
 withStamp k stamps = tab k (λ v. bit (ltb 0 (getD stamps v 0)))
-
--- Light passes from rows to columns and back, so the wires lit in round t are rows where t is even and columns where it is odd: the first
--- place of these, and the place past them
-unfoldable pub firstPlace : ℕ → ℕ → ℕ
-firstPlace m t = elim (eqb (t % 2) 0) [ true ↦ 0 | false ↦ m ]
-
-unfoldable pub pastPlace : ℕ → ℕ → ℕ → ℕ
-pastPlace m n t = elim (eqb (t % 2) 0) [ true ↦ m | false ↦ m + n ]
-
--- the wires lit in round t stand there
-pub record Side (m n t u : ℕ) : Type 0 where
-  pub from : firstPlace m t ≤ u
-  pub below : u < pastPlace m n t
-
--- the cells and the stamps are long enough for m rows and n columns
-pub record Sized (m n : ℕ) (cells stamps : List ℕ) : Type 0 where
-  pub cells-fit : m * n ≤ length cells
-  pub wires-fit : m + n ≤ length stamps
-
--- what a part of a round does: each dark wire that f names gets the new stamp and all others keep theirs; and whether there was one
-pub record Marks (new : ℕ) (f : ℕ → Bool) (before after : List ℕ) (added : Bool) : Type 0 where
-  pub stamps : (v : ℕ) → getD after v 0 ≡ stamp new (f v) (getD before v 0)
-  pub none : added ≡ false → after ≡ before
-  pub some : added ≡ true → (v : ℕ) × (getD before v 0 ≡ 0) × (getD after v 0 ≡ new)
 
 -- what a round does: the stamps after it, and whether it added a wire
 pub record Rounded (m n : ℕ) (joined : ℕ → ℕ → Bool) (t : ℕ) (before after : List ℕ) (added : Bool) : Type 0 where

@@ -1,11 +1,9 @@
 -- Light's answer. Document 01, "The services": "crossbar and setting in; the lit wires and the rounds out."
 use Prim.Native.Nat.{ℕ, _+_, _-_}
-use mathlib.Core.Path.{_≡_}
 use mathlib.Core.Bool.{Bool, not}
 use mathlib.Core.List.{List, [], _∷_}
-use lib.ListN.{length}
 use lib.Dec.{ltb}
-use Rattle.common.specs.Outcome.{Outcome, done, _when_, lowest, unless, refusalOf, valueOf, bufferOf}
+use Rattle.common.specs.Outcome.{Outcome, done, _when_, lowest, unless, refusalOf, valueOf}
 use Rattle.cells.specs.declared.Crossbar.{Crossbar}
 use Rattle.cells.specs.Conducts.{joins}
 use Rattle.cells.specs.Record.{sound}
@@ -45,11 +43,6 @@ light x cells setting room =
     0
     (done (litBy x cells setting))
 
--- the answer as the call hands it over
+-- the answer as the call hands it over; with the set's bytes it is what light promises, by `Answered`
 unfoldable pub lighted : Outcome Lit → Lighted
 lighted o = record { refusal = refusalOf o; rounds = valueOf 0 (λ a. a .count) o }
-
--- what light promises of its answer r and of the buffer lent, by its bytes before and after the call
-pub record Answers (x : Crossbar) (cells setting before after : List ℕ) (r : Lighted) : Type 0 where
-  pub answer : r ≡ lighted (light x cells setting (length before))
-  pub bytes : after ≡ bufferOf (length before) (λ a. a .wires) (light x cells setting (length before))

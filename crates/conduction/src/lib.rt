@@ -2,6 +2,7 @@
 use common::Refusal;
 
 pub mod lighting;
+pub mod spreading;
 pub mod stamping;
 
 // Light's answer: the refusal, and the count of rounds, 0 after a refusal.

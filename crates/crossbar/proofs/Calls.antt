@@ -12,7 +12,7 @@ use Rattle.jobs.specs.declared.Walked.{Walked}
 use Rattle.jobs.specs.Answer.{walked}
 use Rattle.jobs.specs.Job.{walk}
 use Rattle.conduction.specs.declared.Lighted.{Lighted}
-use Rattle.conduction.specs.Light.{light, lighted, Answers as LightAnswers}
+use Rattle.conduction.specs.Light.{light, lighted}
 use Rattle.listings.specs.declared.printing.Printed.{Printed}
 use Rattle.listings.specs.Listing.{print}
 use Rattle.listings.specs.Printing.{printedOf, Answered as PrintAnswered}
@@ -56,7 +56,7 @@ unfolding hostPrint
 print-refused s cells before after r =
     refused-12 length (λ t. t) s (print (recordFrom s) cells (length before)) (length before) r after
 
-module _ (x : Crossbar) (cells setting before after : List ℕ) (lit : Lighted) (a : LightAnswers x cells setting before after lit) where
+module _ (x : Crossbar) (cells setting before after : List ℕ) (lit : Lighted) (a : Answered (light x cells setting (length before)) lighted (λ a. a .wires) (length before) lit after) where
   pub light-numbers : lit .refusal .number ≤ mostNumber
   unfolding lighted
   light-numbers =
@@ -76,7 +76,7 @@ module _ (x : Crossbar) (cells setting before after : List ℕ) (lit : Lighted) 
       (record {
         answer = answered (λ a. a .count) o (lit .refusal) (lit .rounds) r (light-numbered x cells setting (length before))
             (ap (λ (l : Lighted). l .refusal) (a .answer)) (ap (λ (l : Lighted). l .rounds) (a .answer)) f;
-        buffer = a .bytes;
+        buffer = a .buffer;
       })
 
 module _ (x : Crossbar) (cells : List ℕ) (room : ℕ) (printed : Printed) (after : List ℕ) (a : PrintAnswered (print x cells room) room printed after) where

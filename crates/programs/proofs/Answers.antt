@@ -9,7 +9,7 @@ use lib.Seq.{take-at}
 use Rattle.common.specs.Limits.{maxRows, maxColumns, maxSwitches, maxOutputs, maxInput}
 use Rattle.common.specs.Lists.{zeros, padded}
 use Rattle.common.proofs.Lists.{length-padded}
-use Rattle.common.specs.Outcome.{Outcome, done, _then_, numberOf, refusalOf, valueOf, bufferOf}
+use Rattle.common.specs.Outcome.{Outcome, done, _then_, numberOf, refusalOf, valueOf, bufferOf, Answered as Promised}
 use Rattle.figures.specs.Line.{linesOf, lineEnd}
 use Rattle.cells.specs.declared.Crossbar.{Crossbar}
 use Rattle.cells.specs.Record.{Whole}
@@ -18,7 +18,7 @@ use Rattle.placement.specs.declared.Mapped.{Mapped}
 use Rattle.placement.specs.Map.{mapJob}
 use Rattle.placement.specs.Answer.{mapped}
 use Rattle.conduction.specs.declared.Lighted.{Lighted}
-use Rattle.conduction.specs.Light.{Lit, light, lighted, Answers}
+use Rattle.conduction.specs.Light.{Lit, light, lighted}
 use Rattle.listings.specs.declared.printing.Printed.{Printed}
 use Rattle.listings.specs.declared.loading.Loaded.{Loaded}
 use Rattle.listings.specs.Listing.{print}
@@ -94,16 +94,15 @@ module _ (s : List ℕ) (size : ℕ) (after : List ℕ) (m : Mapped) (a : outcom
 -- light, into the program's buffer
 module _
     (x : Crossbar)
-    (codes setting before after : List ℕ)
+    (codes setting after : List ℕ)
     (r : Lighted)
-    (a : Answers x codes setting before after r)
-    (room : length before ≡ maxRows + maxColumns)
+    (a : Promised (light x codes setting (maxRows + maxColumns)) lighted (λ a. a .wires) (maxRows + maxColumns) r after)
   where
     abbrev lit : Outcome Lit
     lit = light x codes setting (maxRows + maxColumns)
 
     is-lighted : r ≡ lighted lit
-    is-lighted = a .answer ∙ ap (λ (n : ℕ). lighted (light x codes setting n)) room
+    is-lighted = a .answer
 
     pub lit-refused :
         (r .refusal .number ≡ 0 → ⊥)
@@ -127,8 +126,7 @@ module _
         let e : lit ≡ done (d .0) = d .1 in
         let count : r .rounds ≡ d .0 .count = ap (λ (q : Lighted). q .rounds) (is-lighted ∙ ap lighted e) in
         let wires : after ≡ padded (maxRows + maxColumns) (d .0 .wires) =
-        a .bytes
-        ∙ ap (λ (k : ℕ). bufferOf k (λ a. a .wires) (light x codes setting k)) room
+        a .buffer
         ∙ ap (bufferOf (maxRows + maxColumns) (λ a. a .wires)) e
         in
         light-prints x codes setting (d .0) (record { count = r .rounds; wires = after }) e (lit-as _ _ _ _ count wires)

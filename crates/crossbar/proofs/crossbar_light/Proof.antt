@@ -33,7 +33,10 @@ cast-pack : tie.Need-cast-pack
 cast-pack c = search needs
 
 pack-requires : tie.Need-pack-requires
-pack-requires c κs = light-numbers _ _ _ _ _ _ (c .before .before .before .before .light .ensures)
+pack-requires c κs =
+    let at-light = c .before .before .before .before in
+    let start = at-light .before .before .before .before .before .before .before .before .before in
+    light-numbers _ _ _ (start .args .wires .now) _ _ (at-light .light .ensures)
 
 same-length-2 : tie.Need-same-length-2
 same-length-2 c = search needs

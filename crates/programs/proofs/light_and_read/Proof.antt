@@ -23,7 +23,7 @@ same-length c = search needs
 returns : tie.Need-returns
 unfolding refusedLine maxRows maxColumns
 returns c =
-    said-as _ _ _ _ _ (lit-refused _ _ _ _ _ _ (c .before .before .before .before .before .before .before .before .light .ensures) refl (c .before .before .before .before .if1 .taken)) (c .before .before .refuse .ensures)
+    said-as _ _ _ _ _ (lit-refused _ _ _ _ _ (c .before .before .before .before .before .before .before .before .light .ensures) (c .before .before .before .before .if1 .taken)) (c .before .before .refuse .ensures)
 
 cast-print-readings : tie.Need-cast-print-readings
 cast-print-readings c = search needs
@@ -34,7 +34,7 @@ slice-aggregate-print-readings c = search needs
 print-readings-requires : tie.Need-print-readings-requires
 unfolding maxRows maxColumns
 print-readings-requires c κs =
-    lit-outputs _ _ _ _ _ _ (c .before .before .before .before .before .before .before .light .ensures) refl (c .before .before .before .if1 .left)
+    lit-outputs _ _ _ _ _ (c .before .before .before .before .before .before .before .light .ensures) (c .before .before .before .if1 .left)
 
 same-length-2 : tie.Need-same-length-2
 same-length-2 c = search needs
@@ -42,7 +42,7 @@ same-length-2 c = search needs
 returns-2 : tie.Need-returns-2
 unfolding maxRows maxColumns
 returns-2 c =
-    said-as _ _ _ _ _ (lit-prints _ _ _ _ _ _ (c .before .before .before .before .before .before .before .before .before .before .light .ensures) refl (c .before .before .before .before .before .before .if1 .left)) (c .before .before .print-readings .ensures)
+    said-as _ _ _ _ _ (lit-prints _ _ _ _ _ (c .before .before .before .before .before .before .before .before .before .before .light .ensures) (c .before .before .before .before .before .before .if1 .left)) (c .before .before .print-readings .ensures)
 
 pub light-and-read-spec : {M : Type 1} → statement M
 light-and-read-spec =

@@ -3,7 +3,7 @@ use mathlib.Core.Path.{refl}
 use native.Mathlib.Omega.{arith}
 use lib.ListN.{length}
 use Rattle.cells.proofs.Every.{held, broken}
-use Rattle.cells.proofs.Sizes.{sound-has}
+use Rattle.cells.proofs.Sizes.{sound-has, setting-long}
 use Rattle.conduction.proofs.Promise.{by-12, by-13, by-14, answers-refused, answers-15, answers-done}
 use borrow.Author.Needs.{needs}
 use Rattle.conduction.proofs.lighting.light.Statement.{statement}
@@ -15,6 +15,9 @@ clear-requires c κs = search needs
 is-sound-requires : tie.Need-is-sound-requires
 is-sound-requires c κs = search needs
 
+is-setting-requires : tie.Need-is-setting-requires
+is-setting-requires c κs = search needs
+
 refuse-requires : tie.Need-refuse-requires
 refuse-requires c κs = search needs
 
@@ -23,15 +26,13 @@ same-length c = search needs
 
 returns : tie.Need-returns
 returns c =
-    let sounded = c .before .before in
+    let tested = c .before .before in
+    let sounded = tested .before in
     let cleared = sounded .before .before .before .clear in
     let args = sounded .before .before .before .before .before .before .before .before .args in
     answers-refused (args .x) (args .cells .now) (args .setting .now) (args .wires .now) (cleared .last .0) (c .refuse .result) 12
     (by-12 (args .x) (args .cells .now) (args .setting .now) (length (args .wires .now)) (broken (sounded .is-sound .ensures) (c .before .if1 .taken)))
     (c .refuse .ensures) (cleared .ensures)
-
-is-setting-requires : tie.Need-is-setting-requires
-is-setting-requires c κs = search needs
 
 refuse-requires-2 : tie.Need-refuse-requires-2
 refuse-requires-2 c κs = search needs
@@ -41,13 +42,14 @@ same-length-2 c = search needs
 
 returns-2 : tie.Need-returns-2
 returns-2 c =
-    let else1 = c .before .before .before in
-    let sounded = else1 .before in
+    let else1 = c .before .before in
+    let tested = else1 .before in
+    let sounded = tested .before in
     let cleared = sounded .before .before .before .clear in
     let args = sounded .before .before .before .before .before .before .before .before .args in
     answers-refused (args .x) (args .cells .now) (args .setting .now) (args .wires .now) (cleared .last .0) (c .refuse2 .result) 13
     (by-13 (args .x) (args .cells .now) (args .setting .now) (length (args .wires .now)) (held (sounded .is-sound .ensures) (else1 .if1 .left))
-    (broken (c .before .before .is-setting .ensures) (c .before .if2 .taken)))
+    (broken (tested .is-setting .ensures) (c .before .if2 .taken)))
     (c .refuse2 .ensures) (cleared .ensures)
 
 cast-m : tie.Need-cast-m
@@ -68,23 +70,36 @@ same-length-3 c = search needs
 returns-3 : tie.Need-returns-3
 returns-3 c =
     let else2 = c .before .before .before .before in
-    let else1 = else2 .before .before in
-    let sounded = else1 .before in
+    let else1 = else2 .before in
+    let tested = else1 .before in
+    let sounded = tested .before in
     let cleared = sounded .before .before .before .clear in
     let args = sounded .before .before .before .before .before .before .before .before .args in
     answers-refused (args .x) (args .cells .now) (args .setting .now) (args .wires .now) (cleared .last .0) (c .refuse3 .result) 14
-    (by-14 (args .x) (args .cells .now) (args .setting .now) (length (args .wires .now)) (held (sounded .is-sound .ensures) (else1 .if1 .left)) (held (else2 .before .is-setting .ensures) (else2 .if2 .left)) (omega (arith, c .before .if3 .taken, cleared .kept .0)))
+    (by-14 (args .x) (args .cells .now) (args .setting .now) (length (args .wires .now)) (held (sounded .is-sound .ensures) (else1 .if1 .left)) (held (tested .is-setting .ensures) (else2 .if2 .left)) (omega (arith, c .before .if3 .taken, cleared .kept .0)))
     (c .refuse3 .ensures) (cleared .ensures)
 
 light-wires-requires : tie.Need-light-wires-requires
 light-wires-requires c κs =
     let else2 = c .before .before .before .before in
-    let else1 = else2 .before .before in
-    let sounded = else1 .before in
+    let else1 = else2 .before in
+    let tested = else1 .before in
+    let sounded = tested .before in
     let cleared = sounded .before .before .before .clear in
     let args = sounded .before .before .before .before .before .before .before .before .args in
     let has = sound-has (args .x) (args .cells .now) (held (sounded .is-sound .ensures) (else1 .if1 .left)) in
-    (has .head .row, omega (arith, has .head .rows, has .head .columns), has .fits, c .before .if3 .left)
+    let fits = held (tested .is-setting .ensures) (else2 .if2 .left) in
+    let long = setting-long (args .x .switches) (args .setting .now) fits in
+    record {
+      row-0 = has .head .row;
+      rows-fit = has .head .rows;
+      columns-fit = has .head .columns;
+      cells-fit = has .fits;
+      codes-fit = rw long (has .codes);
+      switches-fit = rw long (has .head .switches);
+      setting-fits = rw long fits;
+      wires-fit = c .before .if3 .left;
+    }
 
 add-if4 : tie.Need-add-if4
 add-if4 c = search needs
@@ -100,28 +115,32 @@ same-length-4 c = search needs
 
 returns-4 : tie.Need-returns-4
 returns-4 c =
-    let else2 = c .before .before .before .before .before .before .before .before .before in
-    let else1 = else2 .before .before in
-    let sounded = else1 .before in
+    let lit = c .before .before .before .before .light-wires in
+    let else3 = c .before .before .before .before .before .before in
+    let else2 = else3 .before .before .before in
+    let else1 = else2 .before in
+    let tested = else1 .before in
+    let sounded = tested .before in
     let cleared = sounded .before .before .before .clear in
     let args = sounded .before .before .before .before .before .before .before .before .args in
-    let lit = c .before .before .before .before .light-wires in
-    answers-15 (args .x) (args .cells .now) (args .setting .now) (args .wires .now) (lit .last .1 .1 .1 .1 .0) (c .refuse4 .result) (lit .result) (cleared .last .0) (cleared .ensures) (held (sounded .is-sound .ensures) (else1 .if1 .left)) (held (else2 .before .is-setting .ensures) (else2 .if2 .left))
-    (omega (arith, c .before .before .before .before .before .before .if3 .left, cleared .kept .0)) (lit .ensures) (c .before .if4 .taken) (c .refuse4 .ensures)
+    answers-15 (args .x) (args .cells .now) (args .setting .now) (args .wires .now) (lit .last .1 .1 .1 .1 .0) (c .refuse4 .result) (lit .result) (cleared .last .0) (cleared .ensures) (held (sounded .is-sound .ensures) (else1 .if1 .left)) (held (tested .is-setting .ensures) (else2 .if2 .left))
+    (omega (arith, else3 .if3 .left, cleared .kept .0)) (lit .ensures) (c .before .if4 .taken) (c .refuse4 .ensures)
 
 same-length-5 : tie.Need-same-length-5
 same-length-5 c = search needs
 
 returns-5 : tie.Need-returns-5
 returns-5 c =
-    let else2 = c .before .before .before .before .before .before .before .before in
-    let else1 = else2 .before .before in
-    let sounded = else1 .before in
+    let lit = c .before .before .before .light-wires in
+    let else3 = c .before .before .before .before .before in
+    let else2 = else3 .before .before .before in
+    let else1 = else2 .before in
+    let tested = else1 .before in
+    let sounded = tested .before in
     let cleared = sounded .before .before .before .clear in
     let args = sounded .before .before .before .before .before .before .before .before .args in
-    let lit = c .before .before .before .light-wires in
-    answers-done (args .x) (args .cells .now) (args .setting .now) (args .wires .now) (lit .last .1 .1 .1 .1 .0) _ (lit .result) (cleared .last .0) (cleared .ensures) (held (sounded .is-sound .ensures) (else1 .if1 .left)) (held (else2 .before .is-setting .ensures) (else2 .if2 .left))
-    (omega (arith, c .before .before .before .before .before .if3 .left, cleared .kept .0)) (lit .ensures) (c .if4 .left) refl
+    answers-done (args .x) (args .cells .now) (args .setting .now) (args .wires .now) (lit .last .1 .1 .1 .1 .0) _ (lit .result) (cleared .last .0) (cleared .ensures) (held (sounded .is-sound .ensures) (else1 .if1 .left)) (held (tested .is-setting .ensures) (else2 .if2 .left))
+    (omega (arith, else3 .if3 .left, cleared .kept .0)) (lit .ensures) (c .if4 .left) refl
 
 pub light-spec : {M : Type 1} → statement M
 light-spec =
@@ -129,10 +148,10 @@ light-spec =
     (tie.spec
     clear-requires
     is-sound-requires
+    is-setting-requires
     refuse-requires
     same-length
     returns
-    is-setting-requires
     refuse-requires-2
     same-length-2
     returns-2
