@@ -3,26 +3,27 @@ use Prim.Native.Nat.{ℕ, zero, suc, _+_, _-_, _/_, _%_, _<_, _≤_}
 use mathlib.Core.Path.{_≡_, refl, sym, ap, _∙_}
 use mathlib.Core.Bool.{true, false}
 use mathlib.Core.Logic.{⊎-elim}
-use mathlib.Core.List.{List, [], _∷_, _++_, append-assoc}
+use mathlib.Core.List.{List, [], _∷_, _++_, append-assoc, append-nil}
+use native.Mathlib.Numerals.{add-one}
 use native.Mathlib.Omega.{arith}
-use lib.ListN.{length, take, drop, set, length-append, length-drop, length-set, take-append-drop}
-use lib.Seq.{drop-cons, drop-drop, getD-set-same, take-set-le, drop-set-lt, take-at, drop-append-add, length-take-le}
+use lib.ListN.{length, getD, take, drop, set, length-append, length-drop, length-set, take-append-drop}
+use lib.Seq.{set-split, take-suc, drop-cons, drop-drop, getD-set-same, take-set-le, drop-set-lt, take-at, drop-append-add, length-take-le}
 use lib.Dec.{ltb}
 use borrow.Author.Tests.{lt-ltb, le-ltb}
 use Rattle.common.proofs.Lists.{by-test, below-or-not}
 use Rattle.figures.specs.Figure.{digits, decimal}
-use Rattle.figures.specs.Position.{put}
+use Rattle.figures.specs.Position.{splice}
 
 module _ (s : List ℕ) (at : ℕ) where
   -- what is written changes no length
-  pub length-put : (w : List ℕ) → at + length w ≤ length s → length (put s at w) ≡ length s
-  unfolding put
-  length-put w h = simp (length-append, length-take-le at s (omega arith), length-drop) (omega arith)
+  pub length-splice : (w : List ℕ) → at + length w ≤ length s → length (splice s at w) ≡ length s
+  unfolding splice
+  length-splice w h = simp (length-append, length-take-le at s (omega arith), length-drop) (omega arith)
 
   -- two writings, the second where the first ends, are one
-  pub put-put : (u w : List ℕ) → at ≤ length s → put (put s at u) (at + length u) w ≡ put s at (u ++ w)
-  unfolding put
-  put-put u w h =
+  pub splice-splice : (u w : List ℕ) → at ≤ length s → splice (splice s at u) (at + length u) w ≡ splice s at (u ++ w)
+  unfolding splice
+  splice-splice u w h =
       let p : length (take at s ++ u) ≡ at + length u = simp (length-append, length-take-le at s h) in
       let d : List ℕ = drop (at + length u) s in
       let e : at + length u + length w ≡ at + length (u ++ w) = simp length-append (omega arith) in
@@ -33,6 +34,29 @@ module _ (s : List ℕ) (at : ℕ) where
       ∙ ap (λ (k : ℕ). drop k s) e
       in
       rw (take-at (take at s ++ u) d (at + length u) p, q, append-assoc (take at s) u w)
+
+module _ (s : List ℕ) where
+  -- nothing written
+  pub splice-nil : (at : ℕ) → splice s at [] ≡ s
+  unfolding splice
+  splice-nil at = let e : at + 0 ≡ at = omega arith in rw (e, append-nil) (take-append-drop at s)
+
+  -- one byte written
+  pub splice-one : (at b : ℕ) → at < length s → set s at b ≡ splice s at (b ∷ [])
+  unfolding splice
+  splice-one at b h =
+      let e : at + 1 ≡ suc at = add-one at in
+      set-split s at b h ∙ rw e (sym (append-assoc (take at s) (b ∷ []) (drop (suc at) s)))
+
+-- the first j bytes of a word are written: one more
+pub splice-more : (s w : List ℕ) (at j : ℕ) → at + length w ≤ length s → j < length w → set (splice s at (take j w)) (at + j) (getD w j 0) ≡ splice s at (take (j + 1) w)
+splice-more s w at j h k =
+    let l : length (take j w) ≡ j = length-take-le j w (omega arith) in
+    let n : length (splice s at (take j w)) ≡ length s = length-splice s at (take j w) (omega arith) in
+    splice-one (splice s at (take j w)) (at + j) (getD w j 0) (omega arith)
+    ∙ ap (λ (m : ℕ). splice (splice s at (take j w)) (at + m) (getD w j 0 ∷ [])) (sym l)
+    ∙ splice-splice s at (take j w) (getD w j 0 ∷ []) (omega arith)
+    ∙ ap (splice s at) (sym (take-suc w j 0 k) ∙ ap (λ (m : ℕ). take m w) (sym (add-one j)))
 
 -- the last k digits of n, in front of a text
 unfoldable last : ℕ → ℕ → List ℕ → List ℕ
@@ -82,7 +106,18 @@ length-decimal : (n : ℕ) → length (decimal n) ≡ count 5 n
 unfolding decimal
 length-decimal n = ap length (digits-last 5 n []) ∙ length-last (count 5 n) n [] ∙ omega arith
 
+count-most : (k n : ℕ) → count k n ≤ k
+unfolding count
+count-most zero n = omega arith
+count-most (suc k) n =
+    ⊎-elim (λ (h : n < 10). rw (count-one k n h) (omega arith))
+    (λ (h : 10 ≤ n). let m : count k (n / 10) ≤ k = count-most k (n / 10) in rw (count-more k n h) (omega arith))
+    (below-or-not n 10)
+
 module _ (n : ℕ) where
+  pub length-most : length (decimal n) ≤ 5
+  length-most = rw (length-decimal n) (count-most 5 n)
+
   pub length-one : n < 10 → length (decimal n) ≡ 1
   length-one h = length-decimal n ∙ count-one 4 n h
 
@@ -151,9 +186,9 @@ unfolding decimal
 decimal-last n = digits-last 5 n [] ∙ ap (λ (k : ℕ). last k n []) (sym (length-decimal n))
 
 -- storing a figure's digits writes the figure
-pub fill-put : (n at : ℕ) (s : List ℕ) → at + length (decimal n) ≤ length s → fill (length (decimal n)) n at s ≡ put s at (decimal n)
-unfolding put
-fill-put n at s h =
+pub fill-splice : (n at : ℕ) (s : List ℕ) → at + length (decimal n) ≤ length s → fill (length (decimal n)) n at s ≡ splice s at (decimal n)
+unfolding splice
+fill-splice n at s h =
     fill-last (length (decimal n)) n at s h
     ∙ ap (λ (l : List ℕ). take at s ++ (l ++ drop (at + length (decimal n)) s)) (sym (decimal-last n))
     ∙ sym (append-assoc (take at s) (decimal n) (drop (at + length (decimal n)) s))

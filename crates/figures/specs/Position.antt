@@ -28,5 +28,5 @@ unfoldable pub figureAt : List ℕ → ℕ → Figure
 figureAt s at = answerOf (at + length (digitsOf (drop at s))) (takeFigure (drop at s))
 
 -- a text with the bytes w in place of those from a position on
-unfoldable pub put : List ℕ → ℕ → List ℕ → List ℕ
-put s at w = take at s ++ w ++ drop (at + length w) s
+unfoldable pub splice : List ℕ → ℕ → List ℕ → List ℕ
+splice s at w = take at s ++ w ++ drop (at + length w) s

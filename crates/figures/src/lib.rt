@@ -4,7 +4,7 @@ ghost use Prim.Native.Nat.{_+_, _≤_};
 ghost use lib.ListN.{getD, length};
 ghost use Rattle.figures.specs.Figure.{isDigit, decimal};
 ghost use Rattle.figures.specs.Line.{lineEnd};
-ghost use Rattle.figures.specs.Position.{stands, figureAt, put};
+ghost use Rattle.figures.specs.Position.{stands, figureAt, splice};
 ghost use Rattle.figures.specs.Past.{wordPast, figurePast};
 
 // Document 01, "Job text": a line is ended by a line feed.
@@ -159,7 +159,7 @@ pub fn figure_length(n: u32) -> usize
 // Writes the figure of `n` at `at`, the last digit first, and answers the position past it. The caller has measured the room.
 pub fn write_figure(out: &mut [u8], at: usize, n: u32) -> usize
     requires { ⌜ at + length (decimal n) ≤ length (now out) ⌝ }
-    ensures { λ r. ⌜ (r ≡ at + length (decimal n)) × (now (out .exit) ≡ put (now (out .entry)) at (decimal n)) ⌝ }
+    ensures { λ r. ⌜ (r ≡ at + length (decimal n)) × (now (out .exit) ≡ splice (now (out .entry)) at (decimal n)) ⌝ }
 {
     let count = figure_length(n);
     let mut j = count;
@@ -170,4 +170,17 @@ pub fn write_figure(out: &mut [u8], at: usize, n: u32) -> usize
         left /= 10;
     }
     at + count
+}
+
+// Writes `word` at `at` and answers the position past it. The caller has measured the room.
+pub fn write_word(out: &mut [u8], at: usize, word: &[u8]) -> usize
+    requires { ⌜ at + length (now word) ≤ length (now out) ⌝ }
+    ensures { λ r. ⌜ (r ≡ at + length (now (word .entry))) × (now (out .exit) ≡ splice (now (out .entry)) at (now (word .entry))) ⌝ }
+{
+    let mut j = 0;
+    while j < word.len() {
+        out[at + j] = word[j];
+        j += 1;
+    }
+    at + word.len()
 }

@@ -5,8 +5,6 @@ pub mod Reading
 pub mod Template
 pub mod Lines
 pub mod Parts
-pub mod Items
-pub mod Filling
 pub mod Steps
 pub mod CellLine
 pub mod LineReads

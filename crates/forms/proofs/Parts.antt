@@ -1,130 +1,86 @@
--- Bytes written part by part: what a buffer holds while a text is written, and at its end. Assumes nothing.
-use Prim.Native.Nat.{ℕ, suc, _+_, _-_, _≤_, _<_}
+-- A text written part by part.
+use Prim.Native.Nat.{ℕ, _+_, _≤_, _<_}
+use Prim.Native.String.{String}
 use mathlib.Core.Path.{_≡_, refl, sym, ap, _∙_}
+use mathlib.Core.Logic.{⊎-elim}
 use mathlib.Core.List.{List, [], _∷_, _++_, append-assoc, append-nil}
 use native.Mathlib.Omega.{arith}
-use native.Mathlib.Numerals.{add-one}
-use lib.ListN.{length, take, drop, set, length-append, take-append-drop}
-use lib.Seq.{set-split, take-append-le, take-take, length-take-le}
-use Rattle.figures.specs.Position.{put}
-use Rattle.figures.proofs.Writing.{length-put, put-put}
-use Rattle.forms.specs.declared.write.Wrote.{Wrote}
-use Rattle.forms.specs.declared.write.Wrote.the-variants.{Next, Full}
-use Rattle.forms.specs.Filled.{Fitted, Unfit, Written}
+use lib.ListN.{length, length-append}
+use Rattle.common.proofs.Lists.{below-or-not}
+use Rattle.figures.specs.Bytes.{bytes}
+use Rattle.figures.specs.Figure.{decimal}
+use Rattle.figures.specs.Past.{nowhere}
+use Rattle.figures.specs.Position.{splice}
+use Rattle.figures.proofs.Writing.{length-splice, splice-nil, splice-splice}
+use Rattle.forms.specs.Template.{Template, Item, word, figure, written, line}
+use Rattle.forms.specs.Written.{Written}
 
-module _ (s : List ℕ) where
-  -- nothing written
-  pub put-nil : (at : ℕ) → put s at [] ≡ s
-  unfolding put
-  put-nil at = let e : at + 0 ≡ at = omega arith in rw (e, append-nil) (take-append-drop at s)
+-- a text that fits and is written, one that does not fit, and none
+pub written-there : {s t w : List ℕ} {at n : ℕ} → at + length w ≤ length s → n ≡ at + length w → t ≡ splice s at w → Written s t at w n
+written-there {s} {t} {w} {at} {n} h e d =
+    record { kept = ap length d ∙ length-splice s at w h; within = λ k. (e, d); beyond = λ k. omega arith }
 
-  -- one byte written
-  pub put-one : (at b : ℕ) → at < length s → set s at b ≡ put s at (b ∷ [])
-  unfolding put
-  put-one at b h =
-      let e : at + 1 ≡ suc at = add-one at in
-      set-split s at b h ∙ rw e (sym (append-assoc (take at s) (b ∷ []) (drop (suc at) s)))
+pub written-not : {s w : List ℕ} {at : ℕ} → length s < nowhere → length s < at + length w → Written s s at w nowhere
+written-not h k = record { kept = refl; within = λ l. absurd (omega arith); beyond = λ l. k }
 
-  -- what stands before the place of writing is as it was
-  pub take-put : (at k : ℕ) (w : List ℕ) → at ≤ k → k ≤ length s → take at (put s k w) ≡ take at s
-  unfolding put
-  take-put at k w h l =
-      let e : at ≤ length (take k s) = rw length-take-le h in
-      rw append-assoc (take-append-le at (take k s) (w ++ drop (k + length w) s) e ∙ take-take at k s h)
+pub written-none : (s : List ℕ) (at : ℕ) → Written s s at [] at
+written-none s at = record { kept = refl; within = λ h. (omega arith, sym (splice-nil s at)); beyond = λ h. omega arith }
 
--- the two answers
-pub written-next : {s t w : List ℕ} {at n : ℕ} → Fitted s t at w n → Written s t at w (Next n)
-written-next {s} {t} {w} {at} {n} f = record {
-  next = λ (m : ℕ) (e : Next n ≡ Next m). let q : n ≡ m = cc in rw q at f;
-  full = λ (e : Next n ≡ Full). absurd (let z : _≡_ {A = ℕ} 0 1 = cc in omega arith);
-}
-
-pub written-full : {s t w : List ℕ} {at : ℕ} → Unfit s t at w → Written s t at w Full
-written-full f = record {
-  next = λ (m : ℕ) (e : Full ≡ Next m). absurd (let z : _≡_ {A = ℕ} 0 1 = cc in omega arith);
-  full = λ (e : Full ≡ Full). f;
-}
-
--- nothing to write
-pub written-none : (s : List ℕ) (at : ℕ) → at ≤ length s → Written s s at [] (Next at)
-written-none s at h =
-    written-next (record { fits = omega arith; past = omega arith; holds = sym (put-nil s at) })
-
--- the same bytes, said otherwise
-pub written-as : {s t v w : List ℕ} {at : ℕ} {a : Wrote} → v ≡ w → Written s t at w a → Written s t at v a
+-- the same text, said otherwise
+pub written-as : {s t v w : List ℕ} {at n : ℕ} → v ≡ w → Written s t at w n → Written s t at v n
 written-as e h = rw e h
 
--- a text `whole` is being written at a position of a buffer that held s: the buffer now holds t, and `rest` is still to be
--- written at `next`
-pub record Going (s : List ℕ) (at : ℕ) (whole t : List ℕ) (next : ℕ) (rest : List ℕ) : Type 0 where
-  pub same : put t next rest ≡ put s at whole
-  pub past : next + length rest ≡ at + length whole
-  pub front : take at t ≡ take at s
-  pub from : at ≤ next
-  pub within : next ≤ length t
-  pub kept : length t ≡ length s
+-- two texts, the second where the first ends, are one
+pub written-then : {s t u v w : List ℕ} {at n m : ℕ} → Written s t at v n → Written t u n w m → Written s u at (v ++ w) m
+written-then {s} {t} {u} {v} {w} {at} {n} {m} f g =
+    let l : length t ≡ length s = f .kept in
+    let k : length (v ++ w) ≡ length v + length w = length-append v w in
+    record {
+      kept = g .kept ∙ l;
+      within = λ (h : m ≤ length s).
+          let b = g .within (omega arith) in
+          let p : m ≡ n + length w = b .0 in
+          let a = f .within (omega arith) in
+          let q : n ≡ at + length v = a .0 in
+          (omega arith, b .1 ∙ rw (a .1, q) (splice-splice s at v w (omega arith)));
+      beyond = λ (h : length s < m).
+          let b : length t < n + length w = g .beyond (omega arith) in
+          ⊎-elim (λ (x : length s < n). let a : length s < at + length v = f .beyond x in omega arith)
+          (λ (x : n ≤ length s). let q : n ≡ at + length v = f .within x .0 in omega arith)
+          (below-or-not (length s) n);
+    }
 
-pub going-start : {r whole : List ℕ} (s : List ℕ) (at : ℕ) → r ≡ whole → at ≤ length s → Going s at whole s at r
-going-start s at e h =
-    record { same = ap (put s at) e; past = ap (λ (l : List ℕ). at + length l) e; front = refl; from = omega arith; within = h; kept = refl }
+-- the parts of a line one after the other: words with a figure after each, and the last word with the line feed
+pub data Parts : Template → List ℕ → List ℕ → List ℕ → ℕ → ℕ → Type 0 where
+  last-part : {w : String} {s t : List ℕ} {at n : ℕ} → Written s t at (bytes w ++ (10 ∷ [])) n → Parts (word w ∷ []) [] s t at n
+  then-part : {w : String} {i : Item} {r : Template} {v : ℕ} {vs s t u : List ℕ} {at n m : ℕ}
+      → Written s t at (bytes w ++ decimal v) n → Parts (i ∷ r) vs t u n m → Parts (word w ∷ figure ∷ i ∷ r) (v ∷ vs) s u at m
+
+pub written-line : {r : Template} {vs s t : List ℕ} {at n : ℕ} → Parts r vs s t at n → Written s t at (line r vs) n
+unfolding line written
+written-line (last-part {w = w} h) = written-as (ap (λ (l : List ℕ). l ++ (10 ∷ [])) (append-nil (bytes w))) h
+written-line (then-part {w = w} {i = i} {r = r} {v = v} {vs = vs} h p) =
+    written-as (simp append-assoc) (written-then h (written-line p))
+
+-- a text `whole` is being written at a position of a buffer that held s: the buffer now holds t, and `rest` is still to be written at
+-- `next`
+pub record Going (s : List ℕ) (at : ℕ) (whole t : List ℕ) (next : ℕ) (rest : List ℕ) : Type 0 where
+  pub front : List ℕ
+  pub so-far : Written s t at front next
+  pub parts : whole ≡ front ++ rest
+
+pub going-start : (s : List ℕ) (at : ℕ) (whole : List ℕ) → Going s at whole s at whole
+going-start s at whole = record { front = []; so-far = written-none s at; parts = refl }
 
 -- a part more is written
-pub going-part :
-    {s whole t u w r : List ℕ} {at next n : ℕ} (rest : List ℕ)
-    → Going s at whole t next r
-    → r ≡ w ++ rest
-    → Fitted t u next w n
-    → Going s at whole u n rest
-going-part {s} {whole} {t} {u} {w} {r} {at} {next} {n} rest g d h =
-    let f : next + length w ≤ length t = h .fits in
-    let e : n ≡ next + length w = h .past in
-    let p : u ≡ put t next w = h .holds in
-    let b : next ≤ length t = omega arith in
-    let o : at ≤ next = g .from in
-    let l : length u ≡ length t = ap length p ∙ length-put t next w f in
-    record {
-      same = rw (p, e) (put-put t next w rest b ∙ ap (put t next) (sym d) ∙ g .same);
-      past = rw e (omega (arith, g .past, ap length d, length-append w rest));
-      front = rw p (take-put t at next w o b ∙ g .front);
-      from = omega arith;
-      within = omega arith;
-      kept = l ∙ g .kept;
-    }
+pub going-part : {s whole t u w r rest : List ℕ} {at next n : ℕ} → Going s at whole t next r → r ≡ w ++ rest → Written t u next w n → Going s at whole u n rest
+going-part {w = w} {rest = rest} g e h =
+    record { front = g .front ++ w; so-far = written-then (g .so-far) h; parts = g .parts ∙ rw (e, append-assoc (g .front) w rest) }
 
--- a part does not fit, so the text does not
-pub going-full :
-    {s whole t u w r : List ℕ} {at next : ℕ} (rest : List ℕ)
-    → Going s at whole t next r
-    → r ≡ w ++ rest
-    → Unfit t u next w
-    → Unfit s u at whole
-going-full {s} {whole} {t} {u} {w} {r} {at} {next} rest g d h =
-    let o : at ≤ next = g .from in
-    record {
-      long = omega (arith, g .past, g .kept, h .long, ap length d, length-append w rest);
-      front =
-          sym (take-take at next u o) ∙ ap (λ (l : List ℕ). take at l) (h .front) ∙ take-take at next t o ∙ g .front;
-    }
+-- the same rest, said otherwise
+pub going-as : {s whole t r rest : List ℕ} {at next : ℕ} → Going s at whole t next r → r ≡ rest → Going s at whole t next rest
+going-as g e = rw (sym e) g
 
--- nothing is left to be written
-pub going-end :
-    {s whole t r : List ℕ} {at next : ℕ} → Going s at whole t next r → r ≡ [] → Fitted s t at whole next
-going-end {s} {whole} {t} {r} {at} {next} g d = record {
-  fits = omega (arith, g .past, g .within, g .kept, ap length d);
-  past = omega (arith, g .past, ap length d);
-  holds = sym (put-nil t next) ∙ ap (put t next) (sym d) ∙ g .same;
-}
-
--- the last part
-pub going-last :
-    {s whole t u w r : List ℕ} {at next : ℕ} {a : Wrote}
-    → Going s at whole t next r
-    → r ≡ w
-    → Written t u next w a
-    → Written s u at whole a
-going-last {s} {whole} {t} {u} {w} {r} {at} {next} {a} g d h =
-    let e : r ≡ w ++ [] = d ∙ sym (append-nil w) in
-    record {
-      next = λ (n : ℕ) (q : a ≡ Next n). going-end (going-part [] g e (h .next n q)) refl;
-      full = λ (q : a ≡ Full). going-full [] g e (h .full q);
-    }
+-- nothing is left
+pub going-end : {s whole t r : List ℕ} {at next : ℕ} → Going s at whole t next r → r ≡ [] → Written s t at whole next
+going-end g e = written-as (g .parts ∙ rw (e, append-nil (g .front))) (g .so-far)

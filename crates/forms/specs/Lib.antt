@@ -3,5 +3,5 @@ pub mod Due
 pub mod Form
 pub mod Forms
 pub mod Pattern
-pub mod Filled
+pub mod Written
 pub mod Read

@@ -1,104 +1,129 @@
-// A line written from a pattern and its values.
-use super::FIGURE;
-use super::LABEL;
-use super::MAX_VALUES;
-use common::LABEL_H;
-use common::LABEL_V;
-ghost use mathlib.Core.Path.{_≡_};
-ghost use mathlib.Core.List.{_∷_, []};
-ghost use lib.ListN.{getD};
+// Lines written into a buffer, part by part. Each part answers the position past it, or nowhere where it does not fit; from nowhere on
+// nothing is written.
+use figures::NOWHERE;
+use figures::figure_length;
+use figures::write_figure;
+use figures::write_word;
+ghost use mathlib.Core.List.{_++_, _∷_, []};
 ghost use Rattle.figures.specs.Figure.{decimal};
-ghost use Rattle.forms.specs.Template.{letterOf};
-ghost use Rattle.forms.specs.Filled.{itemOf, uses, filledLine, Written};
+ghost use Rattle.forms.specs.Template.{line};
+ghost use Rattle.forms.specs.Forms.{outForm, endForm, crossbarForm, onForm, yesForm, noForm, refusedForm, roundsForm, readsForm};
+ghost use Rattle.forms.specs.Written.{Written};
 
-// What came of writing: the position past what was written, or that it does not fit.
-pub enum Wrote {
-    Next(usize),
-    Full,
+// A word.
+fn put_word(out: &mut [u8], at: usize, word: &[u8]) -> usize
+    ensures { λ r. ⌜ Written (now (out .entry)) (now (out .exit)) at (now (word .entry)) r ⌝ }
+{
+    if out.len() < word.len() {
+        return NOWHERE;
+    }
+    if out.len() - word.len() < at {
+        return NOWHERE;
+    }
+    write_word(out, at, word)
 }
 
-// Writes one byte.
-fn write_byte(out: &mut [u8], at: usize, b: u8) -> Wrote
-    ensures { λ r. ⌜ Written (now (out .entry)) (now (out .exit)) at (b ∷ []) r ⌝ }
+// A word and the figure of a number after it.
+fn put_figure(out: &mut [u8], at: usize, word: &[u8], n: u32) -> usize
+    ensures { λ r. ⌜ Written (now (out .entry)) (now (out .exit)) at (now (word .entry) ++ decimal n) r ⌝ }
 {
-    if at < out.len() {
-        out[at] = b;
-        return Wrote::Next(at + 1);
+    let size = word.len() + figure_length(n);
+    if out.len() < size {
+        return NOWHERE;
     }
-    Wrote::Full
+    if out.len() - size < at {
+        return NOWHERE;
+    }
+    let past = write_word(out, at, word);
+    write_figure(out, past, n)
 }
 
-// Writes a figure.
-fn write_number(out: &mut [u8], at: usize, n: u32) -> Wrote
-    ensures { λ r. ⌜ Written (now (out .entry)) (now (out .exit)) at (decimal n) r ⌝ }
+// `(out J I)`, and in a listing `(out J r)`
+pub fn write_out(out: &mut [u8], at: usize, j: u32, i: u32) -> usize
+    ensures { λ n. ⌜ Written (now (out .entry)) (now (out .exit)) at (line outForm (j ∷ i ∷ [])) n ⌝ }
 {
-    if out.len() < at {
-        return Wrote::Full;
-    }
-    if out.len() - at < figures::figure_length(n) {
-        return Wrote::Full;
-    }
-    Wrote::Next(figures::write_figure(out, at, n))
+    let past_j = put_figure(out, at, b"(out ", j);
+    let past_i = put_figure(out, past_j, b" ", i);
+    put_word(out, past_i, b")\n")
 }
 
-// The byte of a label.
-fn letter_of(t: u32) -> u8
-    ensures { λ r. ⌜ r ≡ letterOf t ⌝ }
+// `(end)`
+pub fn write_end(out: &mut [u8], at: usize) -> usize
+    ensures { λ n. ⌜ Written (now (out .entry)) (now (out .exit)) at (line endForm []) n ⌝ }
 {
-    if t == LABEL_H as u32 {
-        return b'h';
-    }
-    if t == LABEL_V as u32 { b'v' } else { b'b' }
+    put_word(out, at, b"(end)\n")
 }
 
-// How many values a byte of a pattern uses.
-fn uses(b: u8) -> usize
-    ensures { λ r. ⌜ r ≡ uses b ⌝ }
+// `(crossbar R C V K)`
+pub fn write_size(
+    out: &mut [u8],
+    at: usize,
+    rows: u32,
+    columns: u32,
+    switches: u32,
+    outputs: u32,
+) -> usize
+    ensures { λ n.
+        ⌜ Written (now (out .entry)) (now (out .exit)) at (line crossbarForm (rows ∷ columns ∷ switches ∷ outputs ∷ [])) n ⌝ }
 {
-    if b == FIGURE {
-        return 1;
-    }
-    if b == LABEL { 1 } else { 0 }
+    let past_r = put_figure(out, at, b"(crossbar ", rows);
+    let past_c = put_figure(out, past_r, b" ", columns);
+    let past_v = put_figure(out, past_c, b" ", switches);
+    let past_k = put_figure(out, past_v, b" ", outputs);
+    put_word(out, past_k, b")\n")
 }
 
-// A value of a line, 0 past the last one.
-fn value_at(v: [u32; MAX_VALUES], k: usize) -> u32
-    ensures { λ r. ⌜ r ≡ getD v k 0 ⌝ }
+// `(cell r c (on))`
+pub fn write_on(out: &mut [u8], at: usize, r: u32, c: u32) -> usize
+    ensures { λ n. ⌜ Written (now (out .entry)) (now (out .exit)) at (line onForm (r ∷ c ∷ [])) n ⌝ }
 {
-    if k < MAX_VALUES { v[k] } else { 0 }
+    let past_r = put_figure(out, at, b"(cell ", r);
+    let past_c = put_figure(out, past_r, b" ", c);
+    put_word(out, past_c, b" (on))\n")
 }
 
-// Writes what a byte of a pattern stands for.
-fn write_item(out: &mut [u8], at: usize, b: u8, value: u32) -> Wrote
-    ensures { λ r. ⌜ Written (now (out .entry)) (now (out .exit)) at (itemOf b value) r ⌝ }
+// `(cell r c (yes x))`
+pub fn write_yes(out: &mut [u8], at: usize, r: u32, c: u32, x: u32) -> usize
+    ensures { λ n. ⌜ Written (now (out .entry)) (now (out .exit)) at (line yesForm (r ∷ c ∷ x ∷ [])) n ⌝ }
 {
-    if b == FIGURE {
-        return write_number(out, at, value);
-    }
-    if b == LABEL {
-        return write_byte(out, at, letter_of(value));
-    }
-    write_byte(out, at, b)
+    let past_r = put_figure(out, at, b"(cell ", r);
+    let past_c = put_figure(out, past_r, b" ", c);
+    let past_x = put_figure(out, past_c, b" (yes ", x);
+    put_word(out, past_x, b"))\n")
 }
 
-// Writes the line that a pattern and its values give, with its line feed.
-pub fn write_line(out: &mut [u8], at: usize, pattern: &[u8], v: [u32; MAX_VALUES]) -> Wrote
-    ensures { λ r. ⌜ Written (now (out .entry)) (now (out .exit)) at (filledLine (now (pattern .entry)) v) r ⌝ }
+// `(cell r c (no x))`
+pub fn write_no(out: &mut [u8], at: usize, r: u32, c: u32, x: u32) -> usize
+    ensures { λ n. ⌜ Written (now (out .entry)) (now (out .exit)) at (line noForm (r ∷ c ∷ x ∷ [])) n ⌝ }
 {
-    if out.len() < at {
-        return Wrote::Full;
-    }
-    let mut next = at;
-    let mut used = 0;
-    let mut i = 0;
-    while i < pattern.len() {
-        let b = pattern[i];
-        match write_item(out, next, b, value_at(v, used)) {
-            Wrote::Next(past) => next = past,
-            Wrote::Full => return Wrote::Full,
-        }
-        used += uses(b);
-        i += 1;
-    }
-    write_byte(out, next, figures::LINE_FEED)
+    let past_r = put_figure(out, at, b"(cell ", r);
+    let past_c = put_figure(out, past_r, b" ", c);
+    let past_x = put_figure(out, past_c, b" (no ", x);
+    put_word(out, past_x, b"))\n")
+}
+
+// `(refused n line)`
+pub fn write_refused(out: &mut [u8], at: usize, ground: u32, number: u32) -> usize
+    ensures { λ n. ⌜ Written (now (out .entry)) (now (out .exit)) at (line refusedForm (ground ∷ number ∷ [])) n ⌝ }
+{
+    let past_ground = put_figure(out, at, b"(refused ", ground);
+    let past_number = put_figure(out, past_ground, b" ", number);
+    put_word(out, past_number, b")\n")
+}
+
+// `(rounds t)`
+pub fn write_rounds(out: &mut [u8], at: usize, t: u32) -> usize
+    ensures { λ n. ⌜ Written (now (out .entry)) (now (out .exit)) at (line roundsForm (t ∷ [])) n ⌝ }
+{
+    let past_t = put_figure(out, at, b"(rounds ", t);
+    put_word(out, past_t, b")\n")
+}
+
+// `(reads J v)`
+pub fn write_read(out: &mut [u8], at: usize, j: u32, v: u32) -> usize
+    ensures { λ n. ⌜ Written (now (out .entry)) (now (out .exit)) at (line readsForm (j ∷ v ∷ [])) n ⌝ }
+{
+    let past_j = put_figure(out, at, b"(reads ", j);
+    let past_v = put_figure(out, past_j, b" ", v);
+    put_word(out, past_v, b")\n")
 }

@@ -1,20 +1,18 @@
--- The text of a listing in parts, as print writes it: one cell or output more, a row more, and the lines as patterns.
--- Assumes nothing.
+-- The text of a listing in parts, as print writes it: one cell or output more, and a row more.
 use Prim.Native.Nat.{ℕ, suc, _+_, _-_, _*_, _/_, _%_, _≤_, _<_}
 use mathlib.Core.Path.{_≡_, refl, sym, ap, _∙_}
 use mathlib.Core.List.{List, [], _∷_, _++_}
 use native.Mathlib.Omega.{arith}
-use native.Mathlib.Nat.{mul-le-mul-right}
+use native.Mathlib.Nat.{mul-le-mul-right, mul-le-mul-left}
 use native.Mathlib.Numerals.{add-one}
 use lib.ListN.{length, getD, take, drop, take-append-drop}
 use lib.Seq.{slice-empty, slice-cons, length-slice, length-take-le, take-take, drop-append-le}
-use Rattle.figures.specs.Bytes.{bytes}
+use Rattle.common.specs.Limits.{maxRows, maxColumns}
 use Rattle.cells.specs.declared.Cell.{Cell}
-use Rattle.cells.specs.declared.Cell.the-variants.{Off, On, Yes, No}
+use Rattle.cells.specs.declared.Cell.the-variants.{Off}
 use Rattle.cells.specs.Code.{cellOf}
-use Rattle.forms.specs.Template.{word, figure, written, line}
-use Rattle.forms.specs.Forms.{crossbarForm, onForm, yesForm, noForm, outForm, endForm}
-use Rattle.forms.specs.Filled.{itemOf, uses, filled, filledLine}
+use Rattle.forms.specs.Template.{line}
+use Rattle.forms.specs.Forms.{outForm}
 use Rattle.listings.specs.Listing.{cellLine, cellLines, outLines}
 use Rattle.listings.specs.Printing.{cellText, outText}
 use Rattle.listings.proofs.Cells.{cell-lines-append, place-row, place-column}
@@ -22,6 +20,10 @@ use Rattle.listings.proofs.Cells.{cell-lines-append, place-row, place-c
 -- a row below m rows lies among their cells
 pub row-inside : (r m n : ℕ) → r < m → r * n + n ≤ m * n
 row-inside r m n h = let k : r + 1 ≤ m = omega arith in omega (arith, mul-le-mul-right n k)
+
+-- a row's first place, within the limits
+pub place-small : (r n : ℕ) → r < maxRows → n ≤ maxColumns → r * n ≤ maxRows * maxColumns
+place-small r n h k = omega (arith, mul-le-mul-right n h, mul-le-mul-left maxRows k)
 
 -- no cells, and no outputs
 pub cell-text-none : (cells : List ℕ) (n p e : ℕ) → p ≡ e → cellText cells n p e ≡ []
@@ -107,40 +109,3 @@ cell-text-row cells n r m h l =
     let k : r * n + n ≤ m * n = row-inside r m n h in
     cell-text-split cells n (r * n) (r * n + n) (m * n) (omega arith) k (omega arith)
     ∙ ap (λ (w : List ℕ). cellText cells n (r * n) (r * n + n) ++ w) (cell-text-from cells n (r * n + n) ((r + 1) * n) (m * n) e)
-
--- all of them
-pub cell-text-all : (cells : List ℕ) (n e : ℕ) → cellText cells n 0 e ≡ cellLines n 0 (take e cells)
-unfolding cellText
-cell-text-all cells n e = refl
-
-pub out-text-all : (outs : List ℕ) (k : ℕ) → outText outs 0 k ≡ outLines 0 (take k outs)
-unfolding outText
-out-text-all outs k = refl
-
--- the lines as patterns, with their values and zeros past them
-module _ (r c : ℕ) where
-  pub on-pattern : cellLine r c On ≡ filledLine (bytes "(cell # # (on))") (r ∷ c ∷ 0 ∷ 0 ∷ 0 ∷ [])
-  unfolding cellLine line written onForm bytes filledLine filled itemOf uses
-  on-pattern = refl
-
-  pub yes-pattern : (x : ℕ) → cellLine r c (Yes x) ≡ filledLine (bytes "(cell # # (yes #))") (r ∷ c ∷ x ∷ 0 ∷ 0 ∷ [])
-  unfolding cellLine line written yesForm bytes filledLine filled itemOf uses
-  yes-pattern x = refl
-
-  pub no-pattern : (x : ℕ) → cellLine r c (No x) ≡ filledLine (bytes "(cell # # (no #))") (r ∷ c ∷ x ∷ 0 ∷ 0 ∷ [])
-  unfolding cellLine line written noForm bytes filledLine filled itemOf uses
-  no-pattern x = refl
-
-pub out-pattern : (j r : ℕ) → line outForm (j ∷ r ∷ []) ≡ filledLine (bytes "(out # #)") (j ∷ r ∷ 0 ∷ 0 ∷ 0 ∷ [])
-unfolding line written outForm bytes filledLine filled itemOf uses
-out-pattern j r = refl
-
-pub crossbar-pattern :
-    (r c v k : ℕ)
-    → line crossbarForm (r ∷ c ∷ v ∷ k ∷ []) ≡ filledLine (bytes "(crossbar # # # #)") (r ∷ c ∷ v ∷ k ∷ 0 ∷ [])
-unfolding line written crossbarForm bytes filledLine filled itemOf uses
-crossbar-pattern r c v k = refl
-
-pub end-pattern : line endForm [] ≡ filledLine (bytes "(end)") (0 ∷ 0 ∷ 0 ∷ 0 ∷ 0 ∷ [])
-unfolding line written endForm bytes filledLine filled itemOf uses
-end-pattern = refl

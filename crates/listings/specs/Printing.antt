@@ -3,6 +3,7 @@ use Prim.Native.Nat.{ℕ, _+_, _*_, _≤_, _<_}
 use mathlib.Core.Path.{_≡_}
 use mathlib.Core.List.{List}
 use lib.ListN.{length, take, drop}
+use Rattle.common.specs.Limits.{maxRows, maxColumns}
 use Rattle.common.specs.Outcome.{Outcome, refusalOf, valueOf, bufferOf}
 use Rattle.listings.specs.declared.printing.Printed.{Printed}
 use Rattle.listings.specs.Listing.{cellLines, outLines}
@@ -33,12 +34,12 @@ outText outs j k = outLines j (drop j (take k outs))
 
 -- a row of cells that lies in the slice
 pub record RowIn (cells : List ℕ) (r n : ℕ) : Type 0 where
-  pub row-small : r < 65536
-  pub columns-small : n < 65536
+  pub row-small : r < maxRows
+  pub columns-small : n ≤ maxColumns
   pub inside : r * n + n ≤ length cells
 
 -- m rows of cells that lie in the slice
 pub record RowsIn (cells : List ℕ) (m n : ℕ) : Type 0 where
-  pub rows-small : m < 65536
-  pub columns-small : n < 65536
+  pub rows-small : m ≤ maxRows
+  pub columns-small : n ≤ maxColumns
   pub inside : m * n ≤ length cells

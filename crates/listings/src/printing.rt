@@ -4,19 +4,20 @@ use cells::Crossbar;
 use cells::checks;
 use common::MAX_OUTPUTS;
 use common::Refusal;
-use forms::write::Wrote;
-use forms::write::write_line;
+use forms::write::write_end;
+use forms::write::write_no;
+use forms::write::write_on;
+use forms::write::write_out;
+use forms::write::write_size;
+use forms::write::write_yes;
 ghost use mathlib.Core.Path.{_≡_};
 ghost use mathlib.Core.Bool.{true};
-ghost use mathlib.Core.List.{_∷_, []};
 ghost use Prim.Native.Nat.{_+_, _*_, _≤_};
 ghost use lib.ListN.{length};
 ghost use Rattle.common.specs.Limits.{maxOutputs};
 ghost use Rattle.common.specs.Lists.{zeros};
 ghost use Rattle.cells.specs.Record.{sound};
-ghost use Rattle.forms.specs.Template.{line};
-ghost use Rattle.forms.specs.Forms.{outForm};
-ghost use Rattle.forms.specs.Filled.{Written};
+ghost use Rattle.forms.specs.Written.{Written};
 ghost use Rattle.listings.specs.Listing.{cellLine, listing, print};
 ghost use Rattle.listings.specs.Printing.{textAnswer, refusedAnswer, Answered, cellText, outText, RowIn, RowsIn};
 
@@ -27,22 +28,21 @@ pub struct Printed {
 }
 
 // Document 01, "Listing": the line of a cell, none where it is off.
-fn write_cell(out: &mut [u8], at: usize, r: u32, c: u32, cell: Cell) -> Wrote
-    requires { ⌜ at ≤ length (now out) ⌝ }
-    ensures { λ w. ⌜ Written (now (out .entry)) (now (out .exit)) at (cellLine r c cell) w ⌝ }
+fn write_cell(out: &mut [u8], at: usize, r: u32, c: u32, cell: Cell) -> usize
+    ensures { λ n. ⌜ Written (now (out .entry)) (now (out .exit)) at (cellLine r c cell) n ⌝ }
 {
     match cell {
-        Cell::Off => Wrote::Next(at),
-        Cell::On => write_line(out, at, b"(cell # # (on))", [r, c, 0, 0, 0]),
-        Cell::Yes(x) => write_line(out, at, b"(cell # # (yes #))", [r, c, x as u32, 0, 0]),
-        Cell::No(x) => write_line(out, at, b"(cell # # (no #))", [r, c, x as u32, 0, 0]),
+        Cell::Off => at,
+        Cell::On => write_on(out, at, r, c),
+        Cell::Yes(x) => write_yes(out, at, r, c, x as u32),
+        Cell::No(x) => write_no(out, at, r, c, x as u32),
     }
 }
 
 // The lines of the cells of a row, column by column. Most cells of a crossbar are off and have no line, so they are passed over here.
-fn write_row(out: &mut [u8], at: usize, cells: &[u8], r: usize, columns: usize) -> Wrote
-    requires { ⌜ (at ≤ length (now out)) × RowIn (now cells) r columns ⌝ }
-    ensures { λ w. ⌜ Written (now (out .entry)) (now (out .exit)) at (cellText (now (cells .entry)) columns (r * columns) (r * columns + columns)) w ⌝ }
+fn write_row(out: &mut [u8], at: usize, cells: &[u8], r: usize, columns: usize) -> usize
+    requires { ⌜ RowIn (now cells) r columns ⌝ }
+    ensures { λ n. ⌜ Written (now (out .entry)) (now (out .exit)) at (cellText (now (cells .entry)) columns (r * columns) (r * columns + columns)) n ⌝ }
 {
     let start = r * columns;
     let mut next = at;
@@ -50,85 +50,60 @@ fn write_row(out: &mut [u8], at: usize, cells: &[u8], r: usize, columns: usize) 
     while c < columns {
         let code = cells[start + c];
         if code != Cell::OFF {
-            match write_cell(out, next, r as u32, c as u32, Cell::from_code(code)) {
-                Wrote::Next(past) => next = past,
-                Wrote::Full => return Wrote::Full,
-            }
+            next = write_cell(out, next, r as u32, c as u32, Cell::from_code(code));
         }
         c += 1;
     }
-    Wrote::Next(next)
+    next
 }
 
 // The lines of the cells, row by row.
-fn write_cells(out: &mut [u8], at: usize, cells: &[u8], rows: usize, columns: usize) -> Wrote
-    requires { ⌜ (at ≤ length (now out)) × RowsIn (now cells) rows columns ⌝ }
-    ensures { λ w. ⌜ Written (now (out .entry)) (now (out .exit)) at (cellText (now (cells .entry)) columns 0 (rows * columns)) w ⌝ }
+fn write_cells(out: &mut [u8], at: usize, cells: &[u8], rows: usize, columns: usize) -> usize
+    requires { ⌜ RowsIn (now cells) rows columns ⌝ }
+    ensures { λ n. ⌜ Written (now (out .entry)) (now (out .exit)) at (cellText (now (cells .entry)) columns 0 (rows * columns)) n ⌝ }
 {
     let mut next = at;
     let mut r = 0;
     while r < rows {
-        match write_row(out, next, cells, r, columns) {
-            Wrote::Next(past) => next = past,
-            Wrote::Full => return Wrote::Full,
-        }
+        next = write_row(out, next, cells, r, columns);
         r += 1;
     }
-    Wrote::Next(next)
-}
-
-// The line of an output.
-fn write_out(out: &mut [u8], at: usize, j: u32, r: u32) -> Wrote
-    ensures { λ w. ⌜ Written (now (out .entry)) (now (out .exit)) at (line outForm (j ∷ r ∷ [])) w ⌝ }
-{
-    write_line(out, at, b"(out # #)", [j, r, 0, 0, 0])
+    next
 }
 
 // The lines of the first k outputs.
-fn write_outs(out: &mut [u8], at: usize, outs: [u16; MAX_OUTPUTS], k: usize) -> Wrote
-    requires { ⌜ (at ≤ length (now out)) × (k ≤ maxOutputs) ⌝ }
-    ensures { λ w. ⌜ Written (now (out .entry)) (now (out .exit)) at (outText outs 0 k) w ⌝ }
+fn write_outs(out: &mut [u8], at: usize, outs: [u16; MAX_OUTPUTS], k: usize) -> usize
+    requires { ⌜ k ≤ maxOutputs ⌝ }
+    ensures { λ n. ⌜ Written (now (out .entry)) (now (out .exit)) at (outText outs 0 k) n ⌝ }
 {
     let mut next = at;
     let mut j = 0;
     while j < k {
-        match write_out(out, next, j as u32, outs[j] as u32) {
-            Wrote::Next(past) => next = past,
-            Wrote::Full => return Wrote::Full,
-        }
+        next = write_out(out, next, j as u32, outs[j] as u32);
         j += 1;
     }
-    Wrote::Next(next)
+    next
 }
 
 // The whole listing of a crossbar, from the buffer's start on.
-fn write_listing(out: &mut [u8], x: Crossbar, cells: &[u8]) -> Wrote
+fn write_listing(out: &mut [u8], x: Crossbar, cells: &[u8]) -> usize
     requires { ⌜ sound x (now cells) ≡ true ⌝ }
-    ensures { λ w. ⌜ Written (now (out .entry)) (now (out .exit)) 0 (listing x (now (cells .entry))) w ⌝ }
+    ensures { λ n. ⌜ Written (now (out .entry)) (now (out .exit)) 0 (listing x (now (cells .entry))) n ⌝ }
 {
     let rows = x.rows;
     let columns = x.columns;
-    let v = [
+    let head = write_size(
+        out,
+        0,
         rows as u32,
         columns as u32,
         x.switches as u32,
         x.outputs as u32,
-        0,
-    ];
-    let head = match write_line(out, 0, b"(crossbar # # # #)", v) {
-        Wrote::Next(past) => past,
-        Wrote::Full => return Wrote::Full,
-    };
-    let body = match write_cells(out, head, cells, rows as usize, columns as usize) {
-        Wrote::Next(past) => past,
-        Wrote::Full => return Wrote::Full,
-    };
+    );
+    let body = write_cells(out, head, cells, rows as usize, columns as usize);
     let outs = x.outs;
-    let tail = match write_outs(out, body, outs, x.outputs as usize) {
-        Wrote::Next(past) => past,
-        Wrote::Full => return Wrote::Full,
-    };
-    write_line(out, tail, b"(end)", [0, 0, 0, 0, 0])
+    let tail = write_outs(out, body, outs, x.outputs as usize);
+    write_end(out, tail)
 }
 
 // The answer for a text: its length.
@@ -160,8 +135,9 @@ pub fn print(x: Crossbar, cells: &[u8], out: &mut [u8]) -> Printed
         return refuse(out, 12);
     }
     common::clear(out);
-    match write_listing(out, x, cells) {
-        Wrote::Next(past) => answer(past),
-        Wrote::Full => refuse(out, 14),
+    let past = write_listing(out, x, cells);
+    if out.len() < past {
+        return refuse(out, 14);
     }
+    answer(past)
 }

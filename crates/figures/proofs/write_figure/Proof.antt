@@ -5,7 +5,7 @@ use native.Mathlib.Omega.{arith}
 use borrow.Author.Needs.{needs}
 use lib.ListN.{length, length-set}
 use Rattle.figures.specs.Figure.{decimal}
-use Rattle.figures.proofs.Writing.{fill, fill-step, fill-done, fill-put}
+use Rattle.figures.proofs.Writing.{fill, fill-step, fill-done, fill-splice}
 use Rattle.figures.proofs.write_figure.Statement.{statement}
 use Rattle.figures.proofs.write_figure.Tie as tie
 
@@ -63,7 +63,7 @@ returns c =
       sym (fill-done (l .loop .j) (l .loop .left) (a .at) (l .loop .out) (search needs))
           ∙ l .loop .inv .0
           ∙ ap (λ (k : ℕ). fill k (a .n) (a .at) (a .out .now)) (l .loop .inv .3)
-          ∙ fill-put (a .n) (a .at) (a .out .now) (l .before .before .before .pre),
+          ∙ fill-splice (a .n) (a .at) (a .out .now) (l .before .before .before .pre),
     )
 
 pub write-figure-spec : {M : Type 1} → statement M

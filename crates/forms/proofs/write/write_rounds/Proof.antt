@@ -1,0 +1,25 @@
+-- `forms::write::write_rounds` meets its contract: its calls write the parts of the line.
+use borrow.Author.Needs.{needs}
+use Rattle.figures.specs.Bytes.{bytes}
+use Rattle.forms.specs.Forms.{roundsForm}
+use Rattle.forms.proofs.Parts.{Parts, last-part, then-part, written-line}
+use Rattle.forms.proofs.write.write_rounds.Statement.{statement}
+use Rattle.forms.proofs.write.write_rounds.Tie as tie
+
+returns : tie.Need-returns
+unfolding roundsForm bytes
+returns c =
+    written-line
+    (then-part (c .before .before .before .before .before .before .before .put-figure .ensures)
+    (last-part (c .before .before .put-word .ensures)))
+
+pub write-rounds-spec : {M : Type 1} → statement M
+write-rounds-spec =
+    tie.close
+    (tie.spec
+    (λ c. search needs)
+    (λ c κs. search needs)
+    (λ c. search needs)
+    (λ c κs. search needs)
+    (λ c. search needs)
+    returns)

@@ -1,0 +1,34 @@
+-- `forms::write::write_size` meets its contract: its calls write the parts of the line.
+use borrow.Author.Needs.{needs}
+use Rattle.figures.specs.Bytes.{bytes}
+use Rattle.forms.specs.Forms.{crossbarForm}
+use Rattle.forms.proofs.Parts.{Parts, last-part, then-part, written-line}
+use Rattle.forms.proofs.write.write_size.Statement.{statement}
+use Rattle.forms.proofs.write.write_size.Tie as tie
+
+returns : tie.Need-returns
+unfolding crossbarForm bytes
+returns c =
+    written-line
+    (then-part (c .before .before .before .before .before .before .before .before .before .before .before .before .before .before .before .before .before .before .before .before .before .before .put-figure .ensures)
+    (then-part (c .before .before .before .before .before .before .before .before .before .before .before .before .before .before .before .before .before .put-figure2 .ensures)
+    (then-part (c .before .before .before .before .before .before .before .before .before .before .before .before .put-figure3 .ensures)
+    (then-part (c .before .before .before .before .before .before .before .put-figure4 .ensures)
+    (last-part (c .before .before .put-word .ensures))))))
+
+pub write-size-spec : {M : Type 1} → statement M
+write-size-spec =
+    tie.close
+    (tie.spec
+    (λ c. search needs)
+    (λ c κs. search needs)
+    (λ c. search needs)
+    (λ c κs. search needs)
+    (λ c. search needs)
+    (λ c κs. search needs)
+    (λ c. search needs)
+    (λ c κs. search needs)
+    (λ c. search needs)
+    (λ c κs. search needs)
+    (λ c. search needs)
+    returns)
