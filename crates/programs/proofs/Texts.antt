@@ -1,4 +1,4 @@
--- What a program hands over for a text that was written into a clear buffer, and the readings part by part. Assumes nothing.
+-- What a program hands over for a text that was written into a clear buffer, and the readings part by part.
 use Prim.Native.Nat.{ℕ, _+_, _-_, _≤_, _<_}
 use mathlib.Core.Path.{_≡_, refl, sym, ap, _∙_}
 use mathlib.Core.List.{List, [], _∷_, _++_, append-assoc}
@@ -8,17 +8,12 @@ use lib.ListN.{length, getD, take, length-append, length-replicate}
 use lib.Seq.{slice-empty, slice-cons, take-at}
 use borrow.Author.Tests.{le-leb, lt-leb}
 use Rattle.common.specs.Lists.{zeros, padded}
-use Rattle.figures.specs.Bytes.{bytes}
 use Rattle.cells.specs.declared.Crossbar.{Crossbar}
 use Rattle.conduction.specs.Light.{Lit}
-use Rattle.forms.specs.Template.{written, line}
-use Rattle.forms.specs.Forms.{refusedForm, roundsForm, readsForm, endForm}
-use Rattle.forms.specs.Filled.{itemOf, uses, filled, filledLine, Fitted, Written}
-use Rattle.forms.specs.declared.write.Wrote.{Wrote}
-use Rattle.forms.specs.declared.write.Wrote.the-variants.{Next, Full}
-use Rattle.forms.proofs.Parts.{Going, going-start, going-part}
-use Rattle.listings.proofs.Answers.{put-zeros}
-use Rattle.listings.proofs.Text.{end-pattern}
+use Rattle.forms.specs.Template.{line}
+use Rattle.forms.specs.Forms.{roundsForm, readsForm, endForm}
+use Rattle.forms.specs.Written.{Written}
+use Rattle.listings.proofs.Answers.{splice-zeros}
 use Rattle.programs.specs.Programs.{readsLines, readings}
 use Rattle.programs.specs.Texts.{fitted, Said, readsText}
 
@@ -31,17 +26,13 @@ unfolding fitted
 fitted-long room s h = rw (lt-leb (length s) room h, fitted)
 
 -- a text written into zeros: whole, or nothing where it does not fit
-pub said-next :
-    (room n : ℕ) (out s : List ℕ) (a : Wrote)
-    → a ≡ Next n
-    → Written (zeros room) out 0 s a
-    → Said room s n out
-said-next room n out s a e w =
-    let f = w .next n e in
+pub said-next : (room n : ℕ) (out s : List ℕ) → n ≤ room → Written (zeros room) out 0 s n → Said room s n out
+said-next room n out s h w =
     let z = length-replicate {A = ℕ} room 0 in
-    let fits : length s ≤ room = omega (arith, f .fits) in
-    let g = fitted-fits room s fits in
-    record { count = rw g (omega (arith, f .past)); bytes = rw g (f .holds ∙ put-zeros room s) }
+    let f = w .within (omega arith) in
+    let q : n ≡ 0 + length s = f .0 in
+    let g = fitted-fits room s (omega arith) in
+    record { count = rw g (omega arith); bytes = rw g (f .1 ∙ splice-zeros room s) }
 
 pub said-nothing : (room : ℕ) (out s : List ℕ) → room < length s → out ≡ zeros room → Said room s 0 out
 unfolding padded
@@ -50,32 +41,15 @@ said-nothing room out s h e =
     let n : room - 0 ≡ room = omega arith in
     record { count = rw g; bytes = rw (g, n) e }
 
-pub said-full :
-    (room : ℕ) (t out s : List ℕ) (a : Wrote)
-    → a ≡ Full
-    → Written (zeros room) t 0 s a
-    → out ≡ zeros room
-    → Said room s 0 out
-said-full room t out s a e w z =
-    let f = w .full e in
-    said-nothing room out s (omega (arith, f .long, length-replicate {A = ℕ} room 0)) z
+pub said-full : (room n : ℕ) (t out s : List ℕ) → room < n → Written (zeros room) t 0 s n → out ≡ zeros room → Said room s 0 out
+said-full room n t out s h w z =
+    let l = length-replicate {A = ℕ} room 0 in
+    let f : length (zeros room) < 0 + length s = w .beyond (omega arith) in
+    said-nothing room out s (omega arith) z
 
 -- the text of what was said, said otherwise
 pub said-as : (room n : ℕ) (out s t : List ℕ) → s ≡ t → Said room s n out → Said room t n out
 said-as room n out s t e h = rw (← e) h
-
--- the lines as patterns, with their values and zeros past them
-pub refused-pattern : (k n : ℕ) → line refusedForm (k ∷ n ∷ []) ≡ filledLine (bytes "(refused # #)") (k ∷ n ∷ 0 ∷ 0 ∷ 0 ∷ [])
-unfolding line written refusedForm bytes filledLine filled itemOf uses
-refused-pattern k n = refl
-
-pub reads-pattern : (j v : ℕ) → line readsForm (j ∷ v ∷ []) ≡ filledLine (bytes "(reads # #)") (j ∷ v ∷ 0 ∷ 0 ∷ 0 ∷ [])
-unfolding line written readsForm bytes filledLine filled itemOf uses
-reads-pattern j v = refl
-
-rounds-pattern : (t : ℕ) → line roundsForm (t ∷ []) ≡ filledLine (bytes "(rounds #)") (t ∷ 0 ∷ 0 ∷ 0 ∷ 0 ∷ [])
-unfolding line written roundsForm bytes filledLine filled itemOf uses
-rounds-pattern t = refl
 
 -- no outputs, and one more
 pub reads-text-none : (wires outs : List ℕ) (j k : ℕ) → j ≡ k → readsText wires outs j k ≡ []
@@ -91,40 +65,13 @@ unfolding readsText readsLines
 reads-text-more wires outs j k h l = rw (slice-cons j k outs 0 h l, add-one j)
 
 -- the first line of the readings, the outputs' and the last one
-unfoldable pub headText : ℕ → List ℕ
-headText t = filledLine (bytes "(rounds #)") (t ∷ 0 ∷ 0 ∷ 0 ∷ 0 ∷ [])
-
-unfoldable pub bodyText : Crossbar → List ℕ → List ℕ
-bodyText x wires = readsText wires (x .outs) 0 (x .outputs)
-
-unfoldable pub endText : List ℕ
-endText = filledLine (bytes "(end)") (0 ∷ 0 ∷ 0 ∷ 0 ∷ 0 ∷ [])
-
-module _ (x : Crossbar) (a : Lit) where
-  readings-parts : headText (a .count) ++ (bodyText x (a .wires) ++ endText) ≡ readings x a
-  unfolding headText bodyText endText readings readsText
-  readings-parts = rw (← (rounds-pattern (a .count)), ← end-pattern) (sym (append-assoc (line roundsForm (a .count ∷ [])) (bodyText x (a .wires)) (line endForm [])))
-
-  module _ (s : List ℕ) where
-    pub at-head : Going s 0 (readings x a) s 0 (headText (a .count) ++ (bodyText x (a .wires) ++ endText))
-    at-head = going-start s 0 readings-parts (omega arith)
-
-    pub at-body :
-        {t : List ℕ} {n : ℕ}
-        → Fitted s t 0 (headText (a .count)) n
-        → Going s 0 (readings x a) t n (bodyText x (a .wires) ++ endText)
-    at-body f = going-part _ at-head refl f
-
-    pub at-end :
-        {t u : List ℕ} {n m : ℕ}
-        → Fitted s t 0 (headText (a .count)) n
-        → Fitted t u n (bodyText x (a .wires)) m
-        → Going s 0 (readings x a) u m endText
-    at-end f g = going-part _ (at-body f) refl g
+pub readings-parts : (x : Crossbar) (a : Lit) → readings x a ≡ (line roundsForm (a .count ∷ []) ++ readsText (a .wires) (x .outs) 0 (x .outputs)) ++ line endForm []
+unfolding readings readsText
+readings-parts x a = refl
 
 -- a text written into a buffer that was cleared, and then said
 pub said-over :
-    (room n : ℕ) (c t out s : List ℕ) (a : Wrote)
+    (room n : ℕ) (c t out s : List ℕ) (a : ℕ)
     → c ≡ zeros room
     → length t ≡ room
     → Written c t 0 s a

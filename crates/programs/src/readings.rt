@@ -2,8 +2,10 @@
 use cells::Crossbar;
 use common::MAX_OUTPUTS;
 use common::Refusal;
-use forms::write::Wrote;
-use forms::write::write_line;
+use forms::write::write_end;
+use forms::write::write_read;
+use forms::write::write_refused;
+use forms::write::write_rounds;
 ghost use mathlib.Core.Path.{_≡_};
 ghost use mathlib.Core.List.{List, _∷_, []};
 ghost use Prim.Native.Nat.{ℕ, _≤_};
@@ -11,25 +13,23 @@ ghost use lib.ListN.{length, getD};
 ghost use Rattle.common.specs.Limits.{maxOutputs};
 ghost use Rattle.common.specs.Lists.{zeros};
 ghost use Rattle.forms.specs.Template.{line};
-ghost use Rattle.forms.specs.Forms.{readsForm, refusedForm};
-ghost use Rattle.forms.specs.Filled.{Written};
+ghost use Rattle.forms.specs.Forms.{refusedForm};
+ghost use Rattle.forms.specs.Written.{Written};
 ghost use Rattle.programs.specs.Programs.{readings};
 ghost use Rattle.programs.specs.Texts.{Said, readsText};
 
 // A text that was written at the start of a clear buffer: its length, or 0 and zeros in the whole buffer where it did not fit.
-fn said(out: &mut [u8], wrote: Wrote) -> usize
+fn said(out: &mut [u8], past: usize) -> usize
     ensures { λ r.
         ⌜ ((s : List ℕ)
-        → Written (zeros (length (now (out .entry)))) (now (out .entry)) 0 s wrote
+        → Written (zeros (length (now (out .entry)))) (now (out .entry)) 0 s past
         → Said (length (now (out .entry))) s r (now (out .exit))) ⌝ }
 {
-    match wrote {
-        Wrote::Next(past) => past,
-        Wrote::Full => {
-            common::clear(out);
-            0
-        },
+    if out.len() < past {
+        common::clear(out);
+        return 0;
     }
+    past
 }
 
 // `(refused n line)`
@@ -38,13 +38,8 @@ pub fn refuse(out: &mut [u8], refusal: Refusal) -> usize
         ⌜ Said (length (now (out .entry))) (line refusedForm (refusal .number ∷ refusal .line ∷ [])) r (now (out .exit)) ⌝ }
 {
     common::clear(out);
-    let wrote = write_line(
-        out,
-        0,
-        b"(refused # #)",
-        [refusal.number, refusal.line, 0, 0, 0],
-    );
-    said(out, wrote)
+    let past = write_refused(out, 0, refusal.number, refusal.line);
+    said(out, past)
 }
 
 // A wire's byte, 0 past the last wire.
@@ -54,47 +49,31 @@ fn wire_at(wires: &[u8], w: usize) -> u8
     if w < wires.len() { wires[w] } else { 0 }
 }
 
-// `(reads J v)`
-fn write_read(out: &mut [u8], at: usize, j: u32, v: u32) -> Wrote
-    ensures { λ w. ⌜ Written (now (out .entry)) (now (out .exit)) at (line readsForm (j ∷ v ∷ [])) w ⌝ }
-{
-    write_line(out, at, b"(reads # #)", [j, v, 0, 0, 0])
-}
-
 // The lines `(reads J v)` of the first k outputs.
-fn write_reads(out: &mut [u8], at: usize, outs: [u16; MAX_OUTPUTS], k: usize, wires: &[u8]) -> Wrote
-    requires { ⌜ (at ≤ length (now out)) × (k ≤ maxOutputs) ⌝ }
-    ensures { λ w. ⌜ Written (now (out .entry)) (now (out .exit)) at (readsText (now (wires .entry)) outs 0 k) w ⌝ }
+fn write_reads(out: &mut [u8], at: usize, outs: [u16; MAX_OUTPUTS], k: usize, wires: &[u8]) -> usize
+    requires { ⌜ k ≤ maxOutputs ⌝ }
+    ensures { λ n. ⌜ Written (now (out .entry)) (now (out .exit)) at (readsText (now (wires .entry)) outs 0 k) n ⌝ }
 {
     let mut next = at;
     let mut j = 0;
     while j < k {
         let v = wire_at(wires, outs[j] as usize);
-        match write_read(out, next, j as u32, v as u32) {
-            Wrote::Next(past) => next = past,
-            Wrote::Full => return Wrote::Full,
-        }
+        next = write_read(out, next, j as u32, v as u32);
         j += 1;
     }
-    Wrote::Next(next)
+    next
 }
 
 // `(rounds t)`, the outputs' lines and `(end)`, from the buffer's start on.
-fn write_readings(out: &mut [u8], x: Crossbar, rounds: u32, wires: &[u8]) -> Wrote
+fn write_readings(out: &mut [u8], x: Crossbar, rounds: u32, wires: &[u8]) -> usize
     requires { ⌜ x .outputs ≤ maxOutputs ⌝ }
-    ensures { λ w.
-        ⌜ Written (now (out .entry)) (now (out .exit)) 0 (readings x (record { count = rounds; wires = now (wires .entry) })) w ⌝ }
+    ensures { λ n.
+        ⌜ Written (now (out .entry)) (now (out .exit)) 0 (readings x (record { count = rounds; wires = now (wires .entry) })) n ⌝ }
 {
-    let head = match write_line(out, 0, b"(rounds #)", [rounds, 0, 0, 0, 0]) {
-        Wrote::Next(past) => past,
-        Wrote::Full => return Wrote::Full,
-    };
+    let head = write_rounds(out, 0, rounds);
     let outs = x.outs;
-    let body = match write_reads(out, head, outs, x.outputs as usize, wires) {
-        Wrote::Next(past) => past,
-        Wrote::Full => return Wrote::Full,
-    };
-    write_line(out, body, b"(end)", [0, 0, 0, 0, 0])
+    let body = write_reads(out, head, outs, x.outputs as usize, wires);
+    write_end(out, body)
 }
 
 // What the second program prints for a crossbar, its count of rounds and its wires.
@@ -104,6 +83,6 @@ pub fn print_readings(out: &mut [u8], x: Crossbar, rounds: u32, wires: &[u8]) ->
         ⌜ Said (length (now (out .entry))) (readings x (record { count = rounds; wires = now (wires .entry) })) r (now (out .exit)) ⌝ }
 {
     common::clear(out);
-    let wrote = write_readings(out, x, rounds, wires);
-    said(out, wrote)
+    let past = write_readings(out, x, rounds, wires);
+    said(out, past)
 }
