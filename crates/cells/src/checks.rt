@@ -34,15 +34,16 @@ fn at_most(s: &[u8], n: usize, most: u8) -> bool
     requires { ⌜ n ≤ length (now s) ⌝ }
     ensures { λ r. ⌜ r ≡ all-of (λ k. leb k most) (take n (now (s .entry))) ⌝ }
 {
-    let mut ok = true;
+    let mut top = 0;
     let mut i = 0;
     while i < n {
-        if most < s[i] {
-            ok = false;
+        let byte = s[i];
+        if top < byte {
+            top = byte;
         }
         i += 1;
     }
-    ok
+    top <= most
 }
 
 // Whether each of the first n output rows is a row.

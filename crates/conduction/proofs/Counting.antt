@@ -17,7 +17,8 @@ use Rattle.conduction.specs.Round.{atRest}
 use Rattle.conduction.specs.First.{stamped, startStamps, stampsAfter, Rounded, Rest, Counted}
 use Rattle.conduction.specs.Wires.{unit, placeOf, wireOf, inOrder, passing, Sided, Fronted, Ready, Standing, Fits, Turned}
 use Rattle.conduction.proofs.Stamps.{start-stamp, start-one, rest-by-stamps}
-use Rattle.conduction.proofs.Turns.{place-wire, row-small, column-small}
+use Rattle.conduction.proofs.Turns.{place-wire}
+use Rattle.conduction.proofs.Crossing.{row-small, column-small}
 
 -- t rounds were run, and each added a wire
 pub record Going (m n : ℕ) (joined : ℕ → ℕ → Bool) (k t : ℕ) (stamps : List ℕ) : Type 0 where

@@ -10,3 +10,4 @@ pub mod Promise
 pub mod Sorting
 pub mod Parts
 pub mod Turns
+pub mod Crossing

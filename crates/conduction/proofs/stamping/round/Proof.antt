@@ -1,7 +1,7 @@
 -- `conduction::stamping::round` meets its contract, across from rows to columns and back.
 use native.Mathlib.Omega.{arith}
 use borrow.Author.Needs.{needs}
-use Rattle.conduction.proofs.Turns.{spread-across, spread-back, mark-across, mark-back, stamp-fits, turn-across, turn-back}
+use Rattle.conduction.proofs.Crossing.{spread-across, spread-back, mark-across, mark-back, stamp-fits, turn-across, turn-back}
 use Rattle.conduction.proofs.stamping.round.Statement.{statement}
 use Rattle.conduction.proofs.stamping.round.Tie as tie
 

@@ -1,15 +1,11 @@
 -- `conduction::stamping::rounds` meets its contract: whenever the loop begins again, t rounds were run and each added a wire.
 use Prim.Native.Nat.{ℕ, _+_, _-_, _<_, _≤_}
 use mathlib.Core.Path.{_≡_, refl, sym, ap, _∙_}
-use mathlib.Core.Logic.{⊎-elim}
 use native.Mathlib.Omega.{arith}
 use native.Mathlib.Nat.{le-trans, mul-le-mul-left, mul-le-mul-right}
 use lib.ListN.{length}
-use borrow.Author.Tests.{lt-ltb, le-ltb}
 use Rattle.common.specs.Limits.{maxRows, maxColumns}
-use Rattle.conduction.specs.Wires.{passing, Fits, Standing}
-use Rattle.conduction.proofs.Turns.{row-small, column-small}
-use Rattle.conduction.proofs.Counting.{Going, Running, running-start, running-none, running-rest, running-on}
+use Rattle.conduction.proofs.Counting.{Running, running-start, running-none, running-rest, running-on}
 use borrow.Author.Needs.{needs}
 use Rattle.conduction.proofs.stamping.rounds.Statement.{statement}
 use Rattle.conduction.proofs.stamping.rounds.Tie as tie
