@@ -1,5 +1,5 @@
 -- Laws of figures: a number below 100000 is read back from the digits that write it, and the digits that were read are those that
--- write the number. Assumes nothing.
+-- write the number.
 use Prim.Native.Nat.{ℕ, zero, suc, _+_, _-_, _*_, _/_, _%_, _≤_, _<_}
 use mathlib.Core.Path.{_≡_, refl, sym, ap, _∙_}
 use mathlib.Core.Logic.{⊎-elim}

@@ -15,7 +15,7 @@ use borrow.Author.Tests.{eq-eqb, ne-eqb, le-leb, lt-leb, leb-true}
 use Rattle.common.proofs.Lists.{by-test, and-left, and-right, true-or-false, below-or-not}
 use Rattle.figures.specs.declared.Figure.the-variants.{At, Missing}
 use Rattle.figures.specs.Figure.{isDigit, digitsOf, isFigure, numberFrom, takeFigure}
-use Rattle.figures.specs.Position.{answerOf, figureAt}
+use Rattle.figures.specs.Position.{foundFigure, figureAt}
 
 -- a digit's byte lies in 48 to 57
 pub digit-range : (b : ℕ) → isDigit b ≡ true → (48 ≤ b) × (b ≤ 57)
@@ -97,11 +97,11 @@ other-first (b ∷ ds) h l e =
 
 figure-is : (s : List ℕ) (at : ℕ) → isFigure (digitsOf (drop at s)) ≡ true
     → figureAt s at ≡ At (numberFrom 0 (digitsOf (drop at s))) (at + length (digitsOf (drop at s)))
-unfolding figureAt takeFigure answerOf
+unfolding figureAt takeFigure foundFigure
 figure-is s at h = rw (h, figureAt, takeFigure)
 
 figure-not : (s : List ℕ) (at : ℕ) → isFigure (digitsOf (drop at s)) ≡ false → figureAt s at ≡ Missing
-unfolding figureAt takeFigure answerOf
+unfolding figureAt takeFigure foundFigure
 figure-not s at h = rw (h, figureAt, takeFigure)
 
 -- the digits from `at` up to i are read, and v is the number that they write

@@ -1,5 +1,4 @@
--- Laws of lines: a text is its lines with their line feeds, and a line put in front of a text is the first of its lines. Assumes
--- nothing.
+-- Laws of lines: a text is its lines with their line feeds, and a line put in front of a text is the first of its lines.
 use Prim.Native.Nat.{ℕ}
 use mathlib.Core.Path.{_≡_, refl, sym, ap, _∙_}
 use mathlib.Core.Logic.{⊎-elim}

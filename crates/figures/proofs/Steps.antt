@@ -14,7 +14,7 @@ use Rattle.figures.specs.declared.Figure.{Figure}
 use Rattle.figures.specs.declared.Figure.the-variants.{At, Missing}
 use Rattle.figures.specs.Bytes.{after}
 use Rattle.figures.specs.Figure.{Figured, digitsOf, isFigure, takeFigure}
-use Rattle.figures.specs.Position.{given, stands, figureAt, answerOf}
+use Rattle.figures.specs.Position.{given, stands, figureAt, foundFigure}
 use Rattle.figures.specs.Past.{nowhere, wordPast, pastOf, figurePast}
 use Rattle.figures.proofs.Words.{after-standing}
 use Rattle.figures.proofs.Digits.{figure-missing, figure-taken, figure-inside}
@@ -54,7 +54,7 @@ module _ (s : List ℕ) (at : ℕ) (short : length s < nowhere) (past : at ≡ n
   word-nowhere w = word-short w s at (omega arith)
 
   pub figure-nowhere : figurePast s at .next ≡ nowhere
-  unfolding figurePast pastOf figureAt answerOf takeFigure isFigure digitsOf
+  unfolding figurePast pastOf figureAt foundFigure takeFigure isFigure digitsOf
   figure-nowhere = let h : length s ≤ at = omega arith in rw (drop-of-length-le s h)
 
 module _ (s : List ℕ) (at : ℕ) where

@@ -19,13 +19,13 @@ unfoldable pub stands : List ℕ → List ℕ → ℕ → Bool
 stands w s at = given (after w (drop at s))
 
 -- the answer for a figure, with the position past it
-unfoldable pub answerOf : ℕ → Option Figured → Figure
-answerOf next none = Missing
-answerOf next (some f) = At (f .figure) next
+unfoldable pub foundFigure : ℕ → Option Figured → Figure
+foundFigure next none = Missing
+foundFigure next (some f) = At (f .figure) next
 
 -- the figure at a position, with the position past its digits
 unfoldable pub figureAt : List ℕ → ℕ → Figure
-figureAt s at = answerOf (at + length (digitsOf (drop at s))) (takeFigure (drop at s))
+figureAt s at = foundFigure (at + length (digitsOf (drop at s))) (takeFigure (drop at s))
 
 -- a text with the bytes w in place of those from a position on
 unfoldable pub splice : List ℕ → ℕ → List ℕ → List ℕ

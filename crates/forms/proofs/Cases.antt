@@ -1,5 +1,5 @@
 -- The form of a line, kind by kind: which form is made where the templates before it do not fit, and that the form of a line has
--- the values of one kind just where the line fits that kind's template. Assumes nothing.
+-- the values of one kind just where the line fits that kind's template.
 use Prim.Native.Nat.{ℕ, zero, suc, _+_, _-_, _<_, _≤_}
 use mathlib.Core.Path.{_≡_, refl, sym, ap, subst, _∙_}
 use mathlib.Core.Logic.{⊎-elim}

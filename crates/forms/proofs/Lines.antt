@@ -1,4 +1,4 @@
--- The line due by its form: what a reader that holds the form of the line knows of the definition's step. Assumes nothing.
+-- The line due by its form: what a reader that holds the form of the line knows of the definition's step.
 use Prim.Native.Nat.{ℕ, _+_, _<_}
 use mathlib.Core.Path.{_≡_, refl, sym, ap, _∙_}
 use mathlib.Core.Option.{Option, some, none}

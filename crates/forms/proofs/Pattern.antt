@@ -1,5 +1,5 @@
 -- Patterns as bytes: the values of a line under a template are those under its pattern, and what a pattern's byte takes at a
--- position is what it takes from the rest of the line. Assumes nothing.
+-- position is what it takes from the rest of the line.
 use Prim.Native.Nat.{ℕ, suc, _+_, _-_, _<_, _≤_}
 use Prim.Native.String.{String}
 use mathlib.Core.Path.{_≡_, refl, sym, ap, _∙_}

@@ -1,4 +1,4 @@
--- The values of a line under a pattern, read byte by byte of the pattern. Assumes nothing.
+-- The values of a line under a pattern, read byte by byte of the pattern.
 use Prim.Native.Nat.{ℕ, suc, _+_, _-_, _<_, _≤_}
 use mathlib.Core.Path.{_≡_, refl, sym, ap, _∙_}
 use mathlib.Core.Bool.{true, false}

@@ -1,4 +1,4 @@
--- What a proof asks of a form: its kind, and the values of its line. No contract speaks of these. Assumes nothing.
+-- What a proof asks of a form: its kind, and the values of its line. No contract speaks of these.
 use Prim.Native.Nat.{ℕ}
 use mathlib.Core.Bool.{true, false}
 use mathlib.Core.Option.{Option, some, none}

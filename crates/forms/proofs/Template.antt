@@ -1,5 +1,5 @@
 -- Laws of templates: the values that fit a template are read back from the line that they write, and a line that has values is the
--- line that these write. Assumes nothing.
+-- line that these write.
 use Prim.Native.Nat.{ℕ, zero, suc, _+_, _≤_, _<_}
 use Prim.Native.String.{String}
 use mathlib.Core.Path.{_≡_, refl, sym, ap, _∙_}

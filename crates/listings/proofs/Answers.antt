@@ -1,4 +1,4 @@
--- What print answers, by case; and a listing written part by part. Assumes nothing.
+-- What print answers, by case; and a listing written part by part.
 use Prim.Native.Nat.{ℕ, zero, suc, _+_, _-_, _*_, _≤_, _<_}
 use mathlib.Core.Path.{_≡_, refl, sym, ap, _∙_}
 use mathlib.Core.Bool.{true, false, not}

@@ -1,4 +1,4 @@
--- Cell lines: the lines of codes put together, the places of cells, and a cell line read back. Assumes nothing.
+-- Cell lines: the lines of codes put together, the places of cells, and a cell line read back.
 use Prim.Native.Nat.{ℕ, zero, suc, _+_, _*_, _/_, _%_, _≤_, _<_}
 use mathlib.Core.Path.{_≡_, refl, sym, ap, _∙_}
 use mathlib.Core.Logic.{_⊎_, inl, inr}

@@ -1,4 +1,4 @@
--- What load hands over, by the step at which it stops or comes to its end. Assumes nothing.
+-- What load hands over, by the step at which it stops or comes to its end.
 use Prim.Native.Nat.{ℕ, _+_, _*_, _≤_, _<_}
 use mathlib.Core.Path.{_≡_, refl, sym, ap, _∙_}
 use mathlib.Core.Bool.{true, false}

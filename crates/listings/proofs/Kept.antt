@@ -1,5 +1,5 @@
 -- The buffer while cells are read: it holds the codes so far and zeros after them, a store past the last cell named keeps this, and at
--- the end it holds the R·C cells. Assumes nothing.
+-- the end it holds the R·C cells.
 use Prim.Native.Nat.{ℕ, zero, suc, _+_, _-_, _≤_, _<_}
 use mathlib.Core.Path.{_≡_, refl, sym, ap, _∙_}
 use mathlib.Core.Logic.{⊎-elim}

@@ -1,4 +1,4 @@
--- How long a listing is: the text of a sound crossbar has at most 393,728 bytes. Assumes nothing.
+-- How long a listing is: the text of a sound crossbar has at most 393,728 bytes.
 use Prim.Native.Nat.{ℕ, suc, _+_, _*_, _/_, _%_, _≤_, _<_}
 use mathlib.Core.Path.{_≡_}
 use mathlib.Core.Logic.{⊎-elim}

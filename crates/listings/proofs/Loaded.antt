@@ -1,4 +1,4 @@
--- A text that is loaded: it is the text of the lines that its values write, and what it gives is in range. Assumes nothing.
+-- A text that is loaded: it is the text of the lines that its values write, and what it gives is in range.
 use Prim.Native.Nat.{ℕ, zero, suc, _+_, _-_, _*_, _≤_, _<_}
 use mathlib.Core.Path.{_≡_, refl, sym, ap, _∙_}
 use mathlib.Core.Bool.{Bool, true, not, _&&_}

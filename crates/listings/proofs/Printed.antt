@@ -1,4 +1,4 @@
--- A printed text is loaded: each line of a listing is taken as the form due, with the values that were printed. Assumes nothing.
+-- A printed text is loaded: each line of a listing is taken as the form due, with the values that were printed.
 use Prim.Native.Nat.{ℕ, zero, suc, _+_, _-_, _*_, _/_, _%_, _≤_, _<_}
 use mathlib.Core.Path.{_≡_, refl, sym, ap, _∙_}
 use mathlib.Core.Logic.{⊎-elim}

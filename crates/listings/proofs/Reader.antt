@@ -1,4 +1,4 @@
--- The reader of cell lines between two lines: what it has read so far, and how a line takes it further. Assumes nothing.
+-- The reader of cell lines between two lines: what it has read so far, and how a line takes it further.
 use Prim.Native.Nat.{ℕ, suc, _+_, _*_, _≤_, _<_}
 use mathlib.Core.Path.{_≡_, refl, ap, _∙_}
 use mathlib.Core.Option.{none}

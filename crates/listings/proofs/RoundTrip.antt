@@ -1,5 +1,5 @@
 -- Print and load are inverse. Document 01, demand 2: "Print then load gives that crossbar; load then print gives that text, where
--- neither refuses." Assumes nothing.
+-- neither refuses."
 use Prim.Native.Nat.{ℕ, _-_, _≤_}
 use mathlib.Core.Path.{_≡_, refl, sym, ap, _∙_}
 use mathlib.Core.Bool.{Bool, true, not}

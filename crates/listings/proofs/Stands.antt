@@ -1,4 +1,4 @@
--- The reader of output lines between two lines: the output rows so far, and how a line takes it further. Assumes nothing.
+-- The reader of output lines between two lines: the output rows so far, and how a line takes it further.
 use Prim.Native.Nat.{ℕ, suc, _+_, _-_, _≤_, _<_}
 use mathlib.Core.Path.{_≡_, refl, sym, ap, _∙_}
 use mathlib.Core.Option.{none}

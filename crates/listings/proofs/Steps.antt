@@ -1,5 +1,4 @@
 -- The reader's steps by the form of a line: what the definition does with the line due, told from the form that the reader holds.
--- Assumes nothing.
 use Prim.Native.Nat.{ℕ, zero, suc, _+_, _*_, _≤_, _<_}
 use mathlib.Core.Path.{_≡_, refl, sym, ap, _∙_}
 use mathlib.Core.Logic.{⊎-elim}

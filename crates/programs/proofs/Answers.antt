@@ -1,4 +1,4 @@
--- What the calls hand over to the programs, and what the programs print of it. Assumes nothing.
+-- What the calls hand over to the programs, and what the programs print of it.
 use Prim.Native.Nat.{ℕ, _+_, _-_, _*_, _≤_}
 use mathlib.Core.Path.{_≡_, refl, sym, ap, _∙_}
 use mathlib.Core.Bool.{true}

@@ -1,4 +1,4 @@
--- No program prints more than 393,728 bytes, so that the programs' buffer holds every text. Assumes nothing.
+-- No program prints more than 393,728 bytes, so that the programs' buffer holds every text.
 use Prim.Native.Nat.{ℕ, suc, _+_, _*_, _≤_}
 use mathlib.Core.Path.{_≡_, refl}
 use mathlib.Core.List.{List, [], _∷_}
@@ -21,9 +21,9 @@ use Rattle.listings.specs.Listing.{listing}
 use Rattle.listings.specs.Loading.{Listed, loadFrom, recordOf, cellsOf}
 use Rattle.listings.proofs.Lengths.{five-most, end-most, listing-most}
 use Rattle.programs.specs.Programs.{printed, inputFits, mapProgram, setLine, readsLines, readings, lightAndRead, lightProgram}
-use Rattle.programs.specs.Texts.{fitted}
+use Rattle.programs.specs.Texts.{wholeOrNone}
 use Rattle.programs.proofs.Printing.{map-maps, light-outputs}
-use Rattle.programs.proofs.Texts.{fitted-fits}
+use Rattle.programs.proofs.Texts.{whole-fits}
 
 -- the bytes of each line
 refused-most : (k n : ℕ) → length (line refusedForm (k ∷ n ∷ [])) ≤ 22
@@ -107,11 +107,11 @@ light-most s =
         light-read-most (l .0 .vals) _ t (y .2)
 
 -- so each text is handed over whole into a buffer of that many bytes
-pub map-whole : (s : List ℕ) (room : ℕ) → maxText ≤ room → fitted room (mapProgram s) ≡ mapProgram s
-map-whole s room h = fitted-fits room (mapProgram s) (omega (arith, map-most s))
+pub map-whole : (s : List ℕ) (room : ℕ) → maxText ≤ room → wholeOrNone room (mapProgram s) ≡ mapProgram s
+map-whole s room h = whole-fits room (mapProgram s) (omega (arith, map-most s))
 
-pub light-whole : (s : List ℕ) (room : ℕ) → maxText ≤ room → fitted room (lightProgram s) ≡ lightProgram s
-light-whole s room h = fitted-fits room (lightProgram s) (omega (arith, light-most s))
+pub light-whole : (s : List ℕ) (room : ℕ) → maxText ≤ room → wholeOrNone room (lightProgram s) ≡ lightProgram s
+light-whole s room h = whole-fits room (lightProgram s) (omega (arith, light-most s))
 
 -- a buffer of that many zeros
 pub zeros-hold : maxText ≤ length (zeros maxText)

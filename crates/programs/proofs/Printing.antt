@@ -1,4 +1,4 @@
--- What each program prints, step by step: what a refusal of each call says, and what follows where it is done. Assumes nothing.
+-- What each program prints, step by step: what a refusal of each call says, and what follows where it is done.
 use Prim.Native.Nat.{ℕ, zero, suc, _+_, _-_, _*_, _≤_, _<_}
 use mathlib.Core.Path.{_≡_, refl, sym, ap, _∙_}
 use mathlib.Core.Logic.{⊎-elim}
@@ -44,7 +44,7 @@ use Rattle.listings.proofs.RoundTrip.{sound-zeros, print-zeros}
 use Rattle.programs.specs.Programs.{printed, inputFits, mapProgram, setLine, readsLines, readings, lightAndRead, lightProgram}
 use Rattle.programs.specs.Setting.{setFound, noSet, setOf}
 use Rattle.programs.specs.Texts.{Said}
-use Rattle.programs.proofs.Texts.{fitted-fits, said-nothing}
+use Rattle.programs.proofs.Texts.{whole-fits, said-nothing}
 use Rattle.programs.proofs.SetLine.{set-told, set-few}
 
 -- the line of a refusal
@@ -131,7 +131,7 @@ said-printed x codes room r out h a =
     (λ (fits : length (listing x codes) ≤ room).
     let e = print-fits x codes room h fits in
     let n : r .length ≡ length (listing x codes) = ap (λ (p : Printed). p .length) (a .answer ∙ ap printedOf e) in
-    let g = fitted-fits room (listing x codes) fits in
+    let g = whole-fits room (listing x codes) fits in
     record { count = rw g n; bytes = rw g (a .buffer ∙ rw e) })
     (below-or-not room (length (listing x codes)))
 

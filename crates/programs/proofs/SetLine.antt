@@ -1,4 +1,4 @@
--- The set line, read figure by figure: how many blanks follow a position says how many figures do. Assumes nothing.
+-- The set line, read figure by figure: how many blanks follow a position says how many figures do.
 use Prim.Native.Nat.{ℕ, zero, suc, _+_, _-_, _≤_, _<_}
 use Prim.Native.String.{String}
 use mathlib.Core.Path.{_≡_, refl, sym, ap, _∙_}

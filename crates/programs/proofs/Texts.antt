@@ -15,15 +15,15 @@ use Rattle.forms.specs.Forms.{roundsForm, readsForm, endForm}
 use Rattle.forms.specs.Written.{Written}
 use Rattle.listings.proofs.Answers.{splice-zeros}
 use Rattle.programs.specs.Programs.{readsLines, readings}
-use Rattle.programs.specs.Texts.{fitted, Said, readsText}
+use Rattle.programs.specs.Texts.{wholeOrNone, Said, readsText}
 
-pub fitted-fits : (room : ℕ) (s : List ℕ) → length s ≤ room → fitted room s ≡ s
-unfolding fitted
-fitted-fits room s h = rw (le-leb (length s) room h, fitted)
+pub whole-fits : (room : ℕ) (s : List ℕ) → length s ≤ room → wholeOrNone room s ≡ s
+unfolding wholeOrNone
+whole-fits room s h = rw (le-leb (length s) room h, wholeOrNone)
 
-pub fitted-long : (room : ℕ) (s : List ℕ) → room < length s → fitted room s ≡ []
-unfolding fitted
-fitted-long room s h = rw (lt-leb (length s) room h, fitted)
+pub whole-long : (room : ℕ) (s : List ℕ) → room < length s → wholeOrNone room s ≡ []
+unfolding wholeOrNone
+whole-long room s h = rw (lt-leb (length s) room h, wholeOrNone)
 
 -- a text written into zeros: whole, or nothing where it does not fit
 pub said-next : (room n : ℕ) (out s : List ℕ) → n ≤ room → Written (zeros room) out 0 s n → Said room s n out
@@ -31,13 +31,13 @@ said-next room n out s h w =
     let z = length-replicate {A = ℕ} room 0 in
     let f = w .within (omega arith) in
     let q : n ≡ 0 + length s = f .0 in
-    let g = fitted-fits room s (omega arith) in
+    let g = whole-fits room s (omega arith) in
     record { count = rw g (omega arith); bytes = rw g (f .1 ∙ splice-zeros room s) }
 
 pub said-nothing : (room : ℕ) (out s : List ℕ) → room < length s → out ≡ zeros room → Said room s 0 out
 unfolding padded
 said-nothing room out s h e =
-    let g = fitted-long room s h in
+    let g = whole-long room s h in
     let n : room - 0 ≡ room = omega arith in
     record { count = rw g; bytes = rw (g, n) e }
 
@@ -84,7 +84,7 @@ pub said-within : (room n : ℕ) (s out : List ℕ) → Said room s n out → n 
 unfolding padded
 said-within room n s out h = rw (h .count, h .bytes, length-append) (omega arith)
 
-pub said-whole : (room n : ℕ) (s out : List ℕ) → fitted room s ≡ s → Said room s n out → take n out ≡ s
+pub said-whole : (room n : ℕ) (s out : List ℕ) → wholeOrNone room s ≡ s → Said room s n out → take n out ≡ s
 unfolding padded
 said-whole room n s out e h =
     let k : n ≡ length s = h .count ∙ ap length e in

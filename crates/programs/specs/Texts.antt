@@ -9,13 +9,13 @@ use Rattle.common.specs.Lists.{padded}
 use Rattle.programs.specs.Programs.{readsLines}
 
 -- a text that has at most `room` bytes, else no bytes
-unfoldable pub fitted : ℕ → List ℕ → List ℕ
-fitted room s = elim (leb (length s) room) [ true ↦ s | false ↦ [] ]
+unfoldable pub wholeOrNone : ℕ → List ℕ → List ℕ
+wholeOrNone room s = elim (leb (length s) room) [ true ↦ s | false ↦ [] ]
 
 -- the count of bytes handed over, and every byte of the buffer of `room` bytes
 pub record Said (room : ℕ) (s : List ℕ) (n : ℕ) (out : List ℕ) : Type 0 where
-  pub count : n ≡ length (fitted room s)
-  pub bytes : out ≡ padded room (fitted room s)
+  pub count : n ≡ length (wholeOrNone room s)
+  pub bytes : out ≡ padded room (wholeOrNone room s)
 
 -- the lines `(reads J v)` from output j up to, not including, output k
 unfoldable pub readsText : List ℕ → List ℕ → ℕ → ℕ → List ℕ

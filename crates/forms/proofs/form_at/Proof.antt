@@ -1,5 +1,4 @@
--- `forms::form_at` meets its contract: the line ends where `line_end` says, and a text without a line feed there has no line. Assumes
--- nothing.
+-- `forms::form_at` meets its contract: the line ends where `line_end` says, and a text without a line feed there has no line.
 use Prim.Native.Nat.{ℕ, _+_, _-_, _≤_}
 use mathlib.Core.Path.{_≡_, refl, sym, ap, _∙_}
 use mathlib.Core.List.{List}

@@ -1,4 +1,4 @@
--- `programs::light_text` meets its contract: the case of the definition that each return stands for. Assumes nothing.
+-- `programs::light_text` meets its contract: the case of the definition that each return stands for.
 use mathlib.Core.Path.{refl, sym, ap, _∙_}
 use Rattle.common.specs.Limits.{maxRows, maxColumns, maxInput}
 use native.Mathlib.Omega.{arith}

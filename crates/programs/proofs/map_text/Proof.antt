@@ -1,4 +1,4 @@
--- `programs::map_text` meets its contract: the case of the definition that each return stands for. Assumes nothing.
+-- `programs::map_text` meets its contract: the case of the definition that each return stands for.
 use mathlib.Core.Path.{refl}
 use Rattle.common.specs.Limits.{maxRows, maxColumns, maxInput}
 use Rattle.programs.specs.Programs.{mapProgram}

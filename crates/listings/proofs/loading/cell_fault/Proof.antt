@@ -1,4 +1,4 @@
--- `listings::loading::cell_fault` meets its contract: each return knows the tests that the cell passed. Assumes nothing.
+-- `listings::loading::cell_fault` meets its contract: each return knows the tests that the cell passed.
 use borrow.Author.Needs.{needs}
 use mathlib.Core.Path.{sym, _∙_}
 use mathlib.Core.Bool.{true, false}

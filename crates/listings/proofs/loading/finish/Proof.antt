@@ -1,4 +1,4 @@
--- `listings::loading::finish` meets its contract: ground 14, or the record and the cells. Assumes nothing.
+-- `listings::loading::finish` meets its contract: ground 14, or the record and the cells.
 use borrow.Author.Needs.{needs}
 use mathlib.Core.Path.{refl}
 use native.Mathlib.Omega.{arith}

@@ -1,4 +1,4 @@
--- `listings::loading::load` meets its contract: the listing starts at the text's first byte, on line 1. Assumes nothing.
+-- `listings::loading::load` meets its contract: the listing starts at the text's first byte, on line 1.
 use borrow.Author.Needs.{needs}
 use Rattle.common.specs.Limits.{maxInput}
 use Rattle.listings.specs.Loading.{load}

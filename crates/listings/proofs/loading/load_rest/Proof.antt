@@ -1,5 +1,4 @@
--- `listings::loading::load_rest` meets its contract: the cell lines, then the output lines and the last line, then ground 14. Assumes
--- nothing.
+-- `listings::loading::load_rest` meets its contract: the cell lines, then the output lines and the last line, then ground 14.
 use borrow.Author.Needs.{needs}
 use mathlib.Core.Path.{_≡_}
 use native.Mathlib.Omega.{arith}

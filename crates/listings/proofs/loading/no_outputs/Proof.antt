@@ -1,4 +1,4 @@
--- `listings::loading::no_outputs` meets its contract. Assumes nothing.
+-- `listings::loading::no_outputs` meets its contract.
 use mathlib.Core.Path.{refl}
 use Rattle.common.specs.Limits.{maxOutputs}
 use Rattle.listings.specs.Loader.{outputsOf}

@@ -1,4 +1,4 @@
--- `listings::loading::place_of` meets its contract: the product of two numbers up to 128 fits. Assumes nothing.
+-- `listings::loading::place_of` meets its contract: the product of two numbers up to 128 fits.
 use borrow.Author.Needs.{needs}
 use native.Mathlib.Omega.{arith}
 use Rattle.common.specs.Limits.{maxRows, maxColumns}

@@ -1,4 +1,4 @@
--- `listings::loading::refuse` meets its contract: the buffer was cleared, and the record holds zeros. Assumes nothing.
+-- `listings::loading::refuse` meets its contract: the buffer was cleared, and the record holds zeros.
 use borrow.Author.Needs.{needs}
 use mathlib.Core.Path.{refl}
 use Rattle.common.specs.Limits.{maxOutputs}

@@ -1,4 +1,4 @@
--- `listings::loading::stand_fault` meets its contract. Assumes nothing.
+-- `listings::loading::stand_fault` meets its contract.
 use borrow.Author.Needs.{needs}
 use mathlib.Core.Path.{sym, _∙_}
 use Rattle.listings.proofs.Steps.{out-of-turn, stand-out, stand-in}

@@ -1,4 +1,4 @@
--- `listings::loading::store` meets its contract: a store past the end changes nothing. Assumes nothing.
+-- `listings::loading::store` meets its contract: a store past the end changes nothing.
 use borrow.Author.Needs.{needs}
 use mathlib.Core.Path.{sym}
 use lib.Seq.{set-out}

@@ -1,4 +1,4 @@
--- `listings::loading::switch_below` meets its contract: each arm of the `match` knows which cell it was given. Assumes nothing.
+-- `listings::loading::switch_below` meets its contract: each arm of the `match` knows which cell it was given.
 use borrow.Author.Needs.{needs}
 use mathlib.Core.Path.{sym, ap}
 use Rattle.listings.specs.Loading.{switchBelow}

@@ -1,4 +1,4 @@
--- `programs::readings::print_readings` meets its contract. Assumes nothing.
+-- `programs::readings::print_readings` meets its contract.
 use mathlib.Core.Path.{_≡_}
 use native.Mathlib.Omega.{arith}
 use lib.ListN.{length}

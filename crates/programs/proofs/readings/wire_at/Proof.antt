@@ -1,4 +1,4 @@
--- `programs::readings::wire_at` meets its contract. Assumes nothing.
+-- `programs::readings::wire_at` meets its contract.
 use mathlib.Core.Path.{sym}
 use lib.ListN.{List·getD-eq-default}
 use borrow.Author.Needs.{needs}

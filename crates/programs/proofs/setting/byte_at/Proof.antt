@@ -1,4 +1,4 @@
--- `programs::setting::byte_at` meets its contract: past the last byte stands none. Assumes nothing.
+-- `programs::setting::byte_at` meets its contract: past the last byte stands none.
 use mathlib.Core.Path.{_≡_, sym}
 use native.Mathlib.Omega.{arith}
 use lib.ListN.{getD, List·getD-eq-default}

@@ -1,4 +1,4 @@
--- `programs::setting::no_set` meets its contract. Assumes nothing.
+-- `programs::setting::no_set` meets its contract.
 use mathlib.Core.Path.{refl}
 use Rattle.common.specs.Limits.{maxSwitches}
 use Rattle.programs.specs.Setting.{noSet}

@@ -1,4 +1,4 @@
--- `programs::setting::read_set` meets its contract: the invariant says which figures are seen and which are still to come. Assumes nothing.
+-- `programs::setting::read_set` meets its contract: the invariant says which figures are seen and which are still to come.
 use Prim.Native.Nat.{_-_}
 use mathlib.Core.Path.{sym, _∙_}
 use native.Mathlib.Omega.{arith}

@@ -1,4 +1,4 @@
--- `programs::setting::set_line` meets its contract. Assumes nothing.
+-- `programs::setting::set_line` meets its contract.
 use mathlib.Core.Path.{_∙_}
 use Rattle.programs.proofs.SetLine.{set-first, set-absent}
 use borrow.Author.Needs.{needs}
