@@ -1,5 +1,4 @@
--- What the reader accepts: a diagram that is valid line by line, so the facts of its nodes and outputs, and its sizes. Assumes
--- nothing.
+-- What the reader accepts: a diagram that is valid line by line, so the facts of its nodes and outputs, and its sizes.
 use Prim.Native.Nat.{ℕ, zero, suc, _+_, _≤_, _<_}
 use mathlib.Core.Path.{_≡_, refl, sym, ap, _∙_}
 use mathlib.Core.Bool.{Bool, true, false, not, _&&_, _||_}

@@ -1,5 +1,5 @@
 -- The answers of the functions of `lines.rt`, one for each kind of line, by the form that the line yields: a line that is not the form
--- due is refused, and one that is gives its values unless it meets a ground. Assumes nothing.
+-- due is refused, and one that is gives its values unless it meets a ground.
 use Prim.Native.Nat.{ℕ, zero, suc, _+_, _≤_, _<_}
 use mathlib.Core.Path.{_≡_, refl, sym, ap, _∙_}
 use mathlib.Core.Logic.{⊎-elim}
@@ -27,8 +27,6 @@ use Rattle.forms.specs.Due.{due}
 use Rattle.forms.proofs.Lines.{due-job, no-job, due-one, no-one, due-node, no-node, due-out, no-out, due-end, no-end, lines-after}
 use Rattle.diagram.specs.declared.Node.{Node}
 use Rattle.diagram.specs.Diagram.{Diagram, idCount}
-use Rattle.diagram.specs.Stored.{stored}
-use Rattle.diagram.proofs.Stored.{idCount-stored}
 use Rattle.diagram.specs.Faults.{headFault, oneFault, nodeFault, outFault}
 use Rattle.jobs.specs.Reading.{nodeOf}
 use Rattle.jobs.specs.LineSteps.{
@@ -47,7 +45,7 @@ use Rattle.jobs.specs.LineSteps.{
   endDue,
   lastLine,
 }
-use Rattle.jobs.specs.Steps.{Sized}
+use Rattle.jobs.specs.LineSteps.{HeadRanges}
 use Rattle.jobs.proofs.Accepted.{node-label, one-label, head-ranges}
 use Rattle.jobs.proofs.LineLaws.{line-missing, line-stops, line-goes, due-inside}
 
@@ -165,7 +163,7 @@ module _ (s : List ℕ) (at n : ℕ) (g : Form) (yields : g ≡ formIn (linesOf 
       unfolding headLine headAnswer headFaultOf refusalOf numberOf lineOf valueOf
       head-stops h = rw (line-stops jobForm headFaultOf n _ _ _ head-found k fault h)
 
-      pub head-sized : k ≡ 0 → Sized (f .switches) (f .nodes) (f .outputs)
+      pub head-sized : k ≡ 0 → HeadRanges (f .switches) (f .nodes) (f .outputs)
       head-sized h =
           let r = head-ranges (f .switches) (f .nodes) (f .outputs) (sym fault ∙ h) in
           record { switches-most = r .0; nodes-most = r .1; outputs-most = r .3 }
@@ -307,20 +305,3 @@ module _ (s : List ℕ) (at n : ℕ) (g : Form) (yields : g ≡ formIn (linesOf 
       pub end-goes : length s ≤ end + 1 → record { number = 0; line = 0 } ≡ lastLine s at n
       unfolding lastLine lowest unless refusalOf numberOf lineOf
       end-goes last = rw (end-whole, follows-no s (end + 1) last)
-
--- the figures of a line without a fault fit 16 bits
-pub node-small :
-    (v one n : ℕ) (xs ls hs ts outs : List ℕ) (i k : ℕ) (a : Node)
-    → k ≡ nodeFault (stored v one n xs ls hs ts outs) i a
-    → k ≡ 0
-    → (a .x < v) × (a .l < n + 2) × (a .h < n + 2)
-unfolding stored
-node-small v one n xs ls hs ts outs i k a fault h =
-    let below = node-below (stored v one n xs ls hs ts outs) i a (sym fault ∙ h) in
-    let ids : i ≡ n + 2 = below .turn ∙ idCount-stored v one n xs ls hs ts outs in
-    (below .switch, omega (arith, below .low), omega (arith, below .high))
-
-pub out-small :
-    (v one n : ℕ) (xs ls hs ts outs : List ℕ) (j i k : ℕ) → k ≡ outFault (stored v one n xs ls hs ts outs) j i → k ≡ 0 → i < n + 2
-out-small v one n xs ls hs ts outs j i k fault h =
-    rw (← (idCount-stored v one n xs ls hs ts outs)) (out-below (stored v one n xs ls hs ts outs) j i (sym fault ∙ h))

@@ -4,11 +4,12 @@ pub mod Cleared
 pub mod Due
 pub mod LineLaws
 pub mod Refusals
+pub mod Ending
 pub mod Entries
-pub mod Filled
+pub mod Going
 pub mod Lends
 pub mod Spread
-pub mod Turns
+pub mod Taken
 pub mod Walks
 pub mod Whole
 pub mod Text

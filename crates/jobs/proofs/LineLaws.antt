@@ -1,5 +1,5 @@
 -- What a line's answer says of the reading that document 01 defines: how the reading goes on from the line, or the refusal at which it
--- stops. Assumes nothing.
+-- stops.
 use Prim.Native.Nat.{ℕ, zero, suc, _+_, _≤_, _<_}
 use mathlib.Core.Path.{_≡_, refl, sym, ap, _∙_}
 use mathlib.Core.Logic.{_⊎_, inl, inr, ⊎-elim}
@@ -41,7 +41,7 @@ use Rattle.jobs.specs.LineSteps.{
   endDue,
   lastLine,
 }
-use Rattle.jobs.specs.Steps.{unlessRefused, Sized}
+use Rattle.jobs.specs.LineSteps.{unlessRefused, HeadRanges}
 use Rattle.jobs.proofs.Accepted.{head-ranges}
 
 -- a line with a number goes no further, and one without goes on with its values
@@ -135,9 +135,9 @@ pub record HeadStep (s : List ℕ) (at n : ℕ) (r : HeadLine) : Type 0 where
   pub goes-on :
       readHead n (linesOf (drop at s))
       ≡ unlessRefused (r .refusal) (readOne (r .switches) (r .nodes) (r .outputs) (n + 1) (linesOf (drop (r .next) s)))
-  pub sized : Sized (r .switches) (r .nodes) (r .outputs)
+  pub sized : HeadRanges (r .switches) (r .nodes) (r .outputs)
 
-pub no-sizes : Sized 0 0 0
+pub no-sizes : HeadRanges 0 0 0
 unfolding maxSwitches maxNodes maxOutputs
 no-sizes = record { switches-most = omega arith; nodes-most = omega arith; outputs-most = omega arith }
 
@@ -154,7 +154,7 @@ line-fault form fault n ls vs h =
 head-sizes :
     (next n : ℕ) (ls : Lines) (o : Outcome (List ℕ))
     → lineDue jobForm headFaultOf n ls ≡ o
-    → Sized (headAnswer next o .switches) (headAnswer next o .nodes) (headAnswer next o .outputs)
+    → HeadRanges (headAnswer next o .switches) (headAnswer next o .nodes) (headAnswer next o .outputs)
 unfolding headAnswer valueOf headFaultOf
 head-sizes next n ls (refused k l) e = no-sizes
 head-sizes next n ls (done vs) e =

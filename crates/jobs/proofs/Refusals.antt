@@ -1,4 +1,4 @@
--- A refusal of a job has a number: none is 0, so an outcome with number 0 is an accepted job. Assumes nothing.
+-- A refusal of a job has a number: none is 0, so an outcome with number 0 is an accepted job.
 use Prim.Native.Nat.{ℕ, zero, suc, _+_}
 use mathlib.Core.Path.{_≡_, refl, ap}
 use mathlib.Core.Option.{Option, some, none}

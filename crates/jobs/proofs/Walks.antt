@@ -1,25 +1,26 @@
--- Walk's answer, from what the reader hands over: the refusal of the job, ground 13, or the value of the diagram in the arrays.
--- Assumes nothing.
-use Prim.Native.Nat.{ℕ, _≤_, _<_}
-use mathlib.Core.Path.{_≡_, ap, _∙_}
+-- Walk's answer, from what the reader hands over: the refusal of the job, ground 13, or the value of the diagram in the flat table.
+use Prim.Native.Nat.{ℕ, zero, suc, _*_, _≤_, _<_}
+use mathlib.Core.Path.{_≡_, refl, ap, _∙_}
 use mathlib.Core.Bool.{true, false}
-use mathlib.Core.List.{List}
+use mathlib.Core.List.{List, []}
 use lib.ListN.{length, getD}
 use lib.Dec.{ltb}
 use borrow.Author.Tests.{lt-ltb, le-ltb}
-use Rattle.common.specs.Limits.{maxNodes, maxOutputs}
-use Rattle.common.specs.Outcome.{Outcome, done, refused, _then_, lowest, unless, numberOf, lineOf, refusalOf, valueOf}
+use Rattle.common.specs.Limits.{maxIds, maxNodes, maxOutputs}
+use Rattle.common.specs.Outcome.{Outcome, done, refused, _then_, lowest, unless, numberOf, lineOf, refusalOf, valueOf, Answered}
 use Rattle.common.proofs.Lists.{getD-padded}
 use Rattle.cells.specs.Setting.{isSetting}
-use Rattle.diagram.specs.Diagram.{Diagram, idCount}
-use Rattle.diagram.specs.Stored.{stored}
-use Rattle.diagram.specs.Walk.{walkValue, Falls}
+use Rattle.diagram.specs.Diagram.{Diagram, idCount, entry, entries}
+use Rattle.diagram.specs.Table.{tabled, Terminals}
+use Rattle.diagram.specs.Walk.{step, steps, walkEnd, walkValue, Falls}
 use Rattle.diagram.proofs.Walk.{facts-fall}
+use Rattle.jobs.specs.declared.Job.{Job}
 use Rattle.jobs.specs.declared.JobRead.{JobRead}
-use Rattle.jobs.specs.Job.{accepted, table, walk}
+use Rattle.jobs.specs.Job.{accepted, walk}
 use Rattle.jobs.specs.Answer.{jobOf, jobRead, walked}
+use Rattle.jobs.specs.Spread.{flat}
 use Rattle.jobs.proofs.Accepted.{accepted-job}
-use Rattle.jobs.proofs.Entries.{Holds, job-stored}
+use Rattle.jobs.proofs.Spread.{flat-terminals, flat-tabled}
 use Rattle.jobs.proofs.Whole.{read-done}
 
 -- a refusal of the job is walk's refusal
@@ -53,6 +54,35 @@ module _ (s : List ℕ) (r : JobRead) (answer : r ≡ jobRead (accepted s)) wher
         let found = read-done s r answer read in
         rw (read-is (found .0) (found .1)) (accepted-job s (found .0) (found .1) .sizes .outs-most)
 
+-- the walk and its steps do not look at the outputs
+same-steps : (t : List ℕ) (n : ℕ) (a b setting : List ℕ) (m i : ℕ) → steps (tabled t n a) setting m i ≡ steps (tabled t n b) setting m i
+unfolding steps step entry entries tabled
+same-steps t n a b setting zero i = refl
+same-steps t n a b setting (suc m) i = same-steps t n a b setting m (step (tabled t n a) setting i)
+
+same-walk : (t : List ℕ) (n : ℕ) (a b setting : List ℕ) (i : ℕ) → walkValue (tabled t n a) setting i ≡ walkValue (tabled t n b) setting i
+unfolding walkValue walkEnd tabled
+same-walk t n a b setting i = rw (same-steps t n a b setting (length (tabled t n a .nodes)) i)
+
+same-falls : (t : List ℕ) (n : ℕ) (outs : List ℕ) → Falls (tabled t n outs) → Falls (tabled t n [])
+unfolding tabled idCount entry entries
+same-falls t n outs h = record { low-falls = h .low-falls; high-falls = h .high-falls }
+
+-- what the walk on the flat table rests on
+module _ (s : List ℕ) (r : JobRead) (t : List ℕ) (flat-read : Answered (accepted s) jobRead flat (4 * maxIds) r t) (read : r .refusal .number ≡ 0) where
+  pub walk-terminals : Terminals t
+  walk-terminals = let found = read-done s r (flat-read .answer) read in flat-terminals s (found .0) r t flat-read (found .1)
+
+  pub walk-falls : Falls (tabled t (r .job .nodes) [])
+  unfolding jobOf
+  walk-falls =
+      let found = read-done s r (flat-read .answer) read in
+      let d = found .0 in
+      let nodes : r .job .nodes ≡ length (d .nodes) = ap (λ (q : Job). q .nodes) (read-is s r (flat-read .answer) d (found .1)) in
+      rw nodes
+      (same-falls t (length (d .nodes)) (d .outs)
+      (rw (flat-tabled s d r t flat-read (found .1)) (facts-fall d (accepted-job s d (found .1) .facts))))
+
 module _ (s setting : List ℕ) (j : ℕ) (r : JobRead) (answer : r ≡ jobRead (accepted s)) where
   pub walk-refused : (r .refusal .number ≡ 0 → ⊥) → record { refusal = r .refusal; value = 0 } ≡ walked (walk s setting j)
   unfolding walk
@@ -78,28 +108,25 @@ module _ (s setting : List ℕ) (j : ℕ) (r : JobRead) (answer : r ≡ jobRead 
           rw (found .1) (rw (fits, past))
 
       module _
-          (xs ls hs ts : List ℕ)
+          (t : List ℕ)
           (id value : ℕ)
-          (holds : Holds (table (accepted s)) xs ls hs ts)
+          (flat-read : Answered (accepted s) jobRead flat (4 * maxIds) r t)
           (named : id ≡ getD (r .job .outs) j 0)
           (below : j < r .job .outputs)
-          (walks : (one : ℕ) (ts outs : List ℕ)
-          → Falls (stored (r .job .switches) one (r .job .nodes) xs ls hs ts outs)
-          → id < idCount (stored (r .job .switches) one (r .job .nodes) xs ls hs ts outs)
-          → value ≡ walkValue (stored (r .job .switches) one (r .job .nodes) xs ls hs ts outs) setting id)
+          (walks : value ≡ walkValue (tabled t (r .job .nodes) []) setting id)
         where
-          -- the arrays hold the diagram, whose children are below, and the output names one of its ids
+          -- the table holds the diagram, and the output names one of its ids
           found-value : (d : Diagram) → accepted s ≡ done d → value ≡ walkValue d setting (getD (d .outs) j 0)
           unfolding jobOf
           found-value d found =
               let is = read-is s r answer d found in
-              let facts = accepted-job s d found .facts in
               let within : j < length (d .outs) = rw is at below in
-              let same : stored (r .job .switches) (d .one) (r .job .nodes) xs ls hs ts (d .outs) ≡ d =
-              rw is (job-stored s d xs ls hs ts found holds) in
               let target : id ≡ getD (d .outs) j 0 = named ∙ rw is (getD-padded maxOutputs (d .outs) j 0 within) in
-              walks (d .one) ts (d .outs) (rw same (facts-fall d facts)) (rw (same, target) (facts .outs-named j within))
-              ∙ rw (same, target)
+              let nodes : r .job .nodes ≡ length (d .nodes) = rw is in
+              walks
+              ∙ rw (nodes, target)
+              (same-walk t (length (d .nodes)) [] (d .outs) setting (getD (d .outs) j 0)
+              ∙ ap (λ (e : Diagram). walkValue e setting (getD (d .outs) j 0)) (flat-tabled s d r t flat-read found))
 
           answered :
               (d : Diagram) → accepted s ≡ done d → record { refusal = record { number = 0; line = 0 }; value = value } ≡ walked (walk s setting j)

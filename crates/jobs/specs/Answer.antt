@@ -1,20 +1,13 @@
--- What is handed over for an outcome: the job record, the node table as it is and by field, and walk's answer.
+-- What is handed over for an outcome: the job record, and walk's answer.
 use Prim.Native.Nat.{ℕ}
-use mathlib.Core.Path.{_≡_}
-use mathlib.Core.List.{List, map}
 use lib.ListN.{length}
 use Rattle.common.specs.Limits.{maxOutputs}
 use Rattle.common.specs.Lists.{zeros, padded}
 use Rattle.common.specs.Outcome.{Outcome, refusalOf, valueOf}
-use Rattle.diagram.specs.declared.Node.{Node}
 use Rattle.diagram.specs.Diagram.{Diagram}
 use Rattle.jobs.specs.declared.Job.{Job}
 use Rattle.jobs.specs.declared.JobRead.{JobRead}
-use Rattle.jobs.specs.declared.Fields.{Fields}
-use Rattle.jobs.specs.declared.TextRead.{TextRead}
-use Rattle.jobs.specs.declared.TableRead.{TableRead}
 use Rattle.jobs.specs.declared.Walked.{Walked}
-use Rattle.jobs.specs.Job.{table}
 
 -- the record of a diagram: V, the label of terminal 1, N, K, and the ids that the outputs name, zeros past them
 unfoldable pub jobOf : Diagram → Job
@@ -34,17 +27,6 @@ noJob = record { switches = 0; one = 0; nodes = 0; outputs = 0; outs = zeros max
 -- the reader's answer
 unfoldable pub jobRead : Outcome Diagram → JobRead
 jobRead o = record { refusal = refusalOf o; job = valueOf noJob jobOf o }
-
--- the entries of a table by field
-unfoldable pub fieldsOf : List Node → Fields
-fieldsOf nodes = record { xs = map (λ n. n .x) nodes; ls = map (λ n. n .l) nodes; hs = map (λ n. n .h) nodes; ts = map (λ n. n .t) nodes }
-
--- the answer with the entries by field, and with the node table
-unfoldable pub textRead : Outcome Diagram → TextRead
-textRead o = record { read = jobRead o; fields = fieldsOf (table o) }
-
-unfoldable pub tableRead : Outcome Diagram → TableRead
-tableRead o = record { read = jobRead o; nodes = table o }
 
 -- walk's answer
 unfoldable pub walked : Outcome ℕ → Walked

@@ -1,10 +1,9 @@
 // The job reader, and the call walk.
 pub mod lines; // lines.rt: each kind of line
 pub mod reading; // reading.rt: the lines in turn
-pub mod table; // table.rt: the node table, lent and filled
+pub mod table; // table.rt: the node table, lent and filled, and the flat table
 pub mod walking; // walking.rt: the call walk
 
-use common::MAX_NODES;
 use common::MAX_OUTPUTS;
 use common::Refusal;
 use diagram::Node;
@@ -23,26 +22,6 @@ pub struct Job {
 pub struct JobRead {
     pub refusal: Refusal,
     pub job: Job,
-}
-
-// The entries of a node table by field: X, L, H and T, each in an array of its own.
-pub struct Fields {
-    pub xs: [u16; MAX_NODES],
-    pub ls: [u16; MAX_NODES],
-    pub hs: [u16; MAX_NODES],
-    pub ts: [u16; MAX_NODES],
-}
-
-// What all lines say: the reader's answer, and the entries of the node table.
-pub struct TextRead {
-    pub read: JobRead,
-    pub fields: Fields,
-}
-
-// The reader's answer, and the node table that it filled.
-pub struct TableRead {
-    pub read: JobRead,
-    pub nodes: [Node; MAX_NODES],
 }
 
 // Walk's answer: a refusal, or number 0 and the diagram's value.
@@ -84,21 +63,19 @@ pub struct OutLine {
     pub next: usize,
 }
 
-// The first two lines, and the number and the position of the line after them.
-pub struct Opening {
+// Where the reader stands: the refusal at which it stopped, or number 0; the figures of the first two lines; how many nodes it has
+// read; the number and the position of the line due; and whether the last step found a node, and which.
+pub struct Progress {
     pub refusal: Refusal,
     pub switches: u16,
     pub one: u16,
     pub nodes: u16,
     pub outputs: u16,
+    pub count: usize,
     pub line: u32,
     pub next: usize,
-}
-
-// The node lines: the position past them.
-pub struct NodesRead {
-    pub refusal: Refusal,
-    pub next: usize,
+    pub found: bool,
+    pub node: Node,
 }
 
 // The lines of the outputs: the ids that they name, zeros past them, and the position past the lines.

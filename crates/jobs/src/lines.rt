@@ -4,19 +4,23 @@ use crate::HeadLine;
 use crate::NodeLine;
 use crate::OneLine;
 use crate::OutLine;
-use common::MAX_NODES;
 use common::Refusal;
+use diagram::NodeValues;
+use diagram::faults;
 use diagram::grounds;
+use diagram::seen::SEEN;
+use diagram::table::TABLE;
 use forms::Form;
 ghost use mathlib.Core.Path.{_≡_};
-ghost use mathlib.Core.List.{List, []};
-ghost use Prim.Native.Nat.{ℕ, _≤_, _<_};
-ghost use lib.ListN.{length};
-ghost use Rattle.common.specs.Limits.{maxNodes};
-ghost use Rattle.diagram.specs.Stored.{stored};
+ghost use mathlib.Core.List.{[]};
+ghost use Prim.Native.Nat.{_≤_, _<_};
+ghost use Rattle.common.specs.Limits.{maxSwitches, maxNodes};
+ghost use Rattle.common.specs.Lists.{zeros};
+ghost use Rattle.diagram.specs.Seen.{Marked};
+ghost use Rattle.diagram.specs.Table.{entryIn, tabled, Terminals};
 ghost use Rattle.jobs.specs.LineSteps.{headLine, oneLine, nodeLine, outLine, lastLine};
 
-// The answers for a line with a refusal.
+// The answer for a first line with a refusal.
 fn no_head(number: u32, line: u32) -> HeadLine
     ensures { λ r. ⌜ r ≡ record { refusal = record { number = number; line = line }; switches = 0; nodes = 0; outputs = 0; next = 0 } ⌝ }
 {
@@ -25,19 +29,6 @@ fn no_head(number: u32, line: u32) -> HeadLine
         switches: 0,
         nodes: 0,
         outputs: 0,
-        next: 0,
-    }
-}
-
-fn no_node(number: u32, line: u32) -> NodeLine
-    ensures { λ r. ⌜ r ≡ record { refusal = record { number = number; line = line }; x = 0; l = 0; h = 0; t = 0; next = 0 } ⌝ }
-{
-    NodeLine {
-        refusal: Refusal { number, line },
-        x: 0,
-        l: 0,
-        h: 0,
-        t: 0,
         next: 0,
     }
 }
@@ -89,30 +80,48 @@ pub fn one_line(text: &[u8], at: usize, line: u32) -> OneLine
     }
 }
 
-// A line `(node I X (L H) T)` after n nodes, which the arrays hold: grounds 1 and 3 to 9.
+// The answer for a node's line with a refusal.
+fn no_node(refusal: Refusal) -> NodeLine
+    ensures { λ r. ⌜ r ≡ record { refusal = refusal; x = 0; l = 0; h = 0; t = 0; next = 0 } ⌝ }
+{
+    NodeLine {
+        refusal,
+        x: 0,
+        l: 0,
+        h: 0,
+        t: 0,
+        next: 0,
+    }
+}
+
+// A line `(node I X (L H) T)` after n nodes, which the table holds: grounds 1 and 3 to 9.
 pub fn node_line(
     text: &[u8],
     at: usize,
     line: u32,
-    xs: &[u16; MAX_NODES],
-    ls: &[u16; MAX_NODES],
-    hs: &[u16; MAX_NODES],
-    ts: &[u16; MAX_NODES],
-    v: u16,
-    one: u16,
     n: usize,
+    table: &[u16; TABLE],
+    seen: &[u8; SEEN],
 ) -> NodeLine
-    requires { ⌜ n ≤ maxNodes ⌝ }
-    ensures { λ r.
-        ⌜ r ≡ nodeLine (now (text .entry)) at line (stored v one n (now (xs .entry)) (now (ls .entry)) (now (hs .entry)) (now (ts .entry)) []) ⌝ }
+    requires { ⌜ (n ≤ maxNodes) × ((entryIn (now table) 0) .x ≤ maxSwitches) ⌝ }
+    requires { ⌜ Terminals (now table) ⌝ }
+    requires { ⌜ Marked (now seen) (tabled (now table) n [] .nodes) ⌝ }
+    ensures { λ r. ⌜ r ≡ nodeLine (now (text .entry)) at line (tabled (now (table .entry)) n []) ⌝ }
 {
     let Form::Node(f) = forms::form_at(text, at, line) else {
-        return no_node(1, line);
+        return no_node(Refusal { number: 1, line });
     };
     let t = f.t as u16;
-    let number = grounds::node_fault(xs, ls, hs, ts, v, one, n, f.id, f.x, f.l, f.h, t);
+    let values = NodeValues {
+        id: f.id,
+        x: f.x,
+        l: f.l,
+        h: f.h,
+        t,
+    };
+    let number = faults::node_fault(table, seen, n, values);
     if number != 0 {
-        return no_node(number, line);
+        return no_node(Refusal { number, line });
     }
     NodeLine {
         refusal: Refusal { number: 0, line: 0 },
@@ -124,21 +133,18 @@ pub fn node_line(
     }
 }
 
-// A line `(out J I)` after n nodes and k outputs: grounds 1, 3, 5 and 9.
+// A line `(out J I)` after n nodes, which the table holds, and k outputs: grounds 1, 3, 5 and 9.
 pub fn out_line(
     text: &[u8],
     at: usize,
     line: u32,
-    ts: &[u16; MAX_NODES],
-    one: u16,
     n: usize,
     k: usize,
+    table: &[u16; TABLE],
 ) -> OutLine
     requires { ⌜ n ≤ maxNodes ⌝ }
-    ensures { λ r.
-        ⌜ ((v : ℕ) (xs ls hs outs : List ℕ)
-        → length outs ≡ k
-        → r ≡ outLine (now (text .entry)) at line (stored v one n xs ls hs (now (ts .entry)) outs)) ⌝ }
+    requires { ⌜ Terminals (now table) ⌝ }
+    ensures { λ r. ⌜ r ≡ outLine (now (text .entry)) at line (tabled (now (table .entry)) n (zeros k)) ⌝ }
 {
     let Form::Out(f) = forms::form_at(text, at, line) else {
         return OutLine {
@@ -147,7 +153,7 @@ pub fn out_line(
             next: 0,
         };
     };
-    let number = grounds::out_fault(ts, one, n, k, f.number, f.target);
+    let number = faults::out_fault(table, n, k, f.number, f.target);
     if number != 0 {
         return OutLine {
             refusal: Refusal { number, line },

@@ -1,117 +1,148 @@
-// Document 01, "Job text": the lines of a job in turn. "Text is read line by line; the first faulty line decides".
-use crate::Fields;
+// Document 01, "Job text": the lines of a job in turn. "Text is read line by line; the first faulty line decides". What the tests of later
+// lines look up is in a flat table, and the places of its nodes are marked.
 use crate::Job;
 use crate::JobRead;
-use crate::NodesRead;
-use crate::Opening;
 use crate::OutsRead;
-use crate::TextRead;
+use crate::Progress;
 use crate::lines;
-use common::MAX_NODES;
 use common::MAX_OUTPUTS;
 use common::Refusal;
-use diagram::counts;
+use diagram::Node;
+use diagram::seen;
+use diagram::seen::SEEN;
+use diagram::table;
+use diagram::table::TABLE;
+use diagram::wires;
 ghost use mathlib.Core.Path.{_≡_};
-ghost use mathlib.Core.List.{List};
-ghost use Prim.Native.Nat.{ℕ, _≤_};
-ghost use lib.ListN.{drop};
-ghost use Rattle.common.specs.Limits.{maxNodes, maxOutputs};
+ghost use mathlib.Core.List.{[]};
+ghost use Prim.Native.Nat.{_+_, _*_, _≤_};
+ghost use lib.ListN.{drop, take};
+ghost use Rattle.common.specs.Limits.{maxIds, maxNodes, maxOutputs};
 ghost use Rattle.common.specs.Lists.{zeros};
 ghost use Rattle.figures.specs.Line.{linesOf};
-ghost use Rattle.jobs.specs.Answer.{noJob, jobRead, textRead};
-ghost use Rattle.jobs.specs.Job.{sizeTested, accepted};
-ghost use Rattle.jobs.specs.Reading.{readEnd};
-ghost use Rattle.jobs.specs.Steps.{OpeningStep, NodesStep, OutsStep, Listed, outlined, endLine, LinesRead};
+ghost use Rattle.diagram.specs.Table.{tabled, Terminals};
+ghost use Rattle.diagram.specs.Seen.{maxSeen};
+ghost use Rattle.jobs.specs.Answer.{noJob, jobRead};
+ghost use Rattle.jobs.specs.Job.{sizeTested};
+ghost use Rattle.jobs.specs.Reading.{readEnd, readOuts};
+ghost use Rattle.jobs.specs.LineSteps.{unlessRefused};
+ghost use Rattle.jobs.specs.Progress.{stoppedAt, openingRead, Bounded, Ready, NodeTaken, Started, Padded, OutsOf};
 
-// The reader's arrays with zeros in every entry.
-fn clear_table(
-    xs: &mut [u16; MAX_NODES],
-    ls: &mut [u16; MAX_NODES],
-    hs: &mut [u16; MAX_NODES],
-    ts: &mut [u16; MAX_NODES],
-)
-    ensures { λ r.
-        ⌜ (now (xs .exit) ≡ zeros maxNodes)
-        × (now (ls .exit) ≡ zeros maxNodes)
-        × (now (hs .exit) ≡ zeros maxNodes)
-        × (now (ts .exit) ≡ zeros maxNodes) ⌝ }
+// Where the reader stands after a refusal.
+fn stopped(refusal: Refusal) -> Progress
+    ensures { λ r. ⌜ r ≡ stoppedAt refusal ⌝ }
 {
-    *xs = [0; MAX_NODES];
-    *ls = [0; MAX_NODES];
-    *hs = [0; MAX_NODES];
-    *ts = [0; MAX_NODES];
+    Progress {
+        refusal,
+        switches: 0,
+        one: 0,
+        nodes: 0,
+        outputs: 0,
+        count: 0,
+        line: 0,
+        next: 0,
+        found: false,
+        node: Node {
+            x: 0,
+            l: 0,
+            h: 0,
+            t: 0,
+        },
+    }
 }
 
 // The first two lines.
-fn read_opening(text: &[u8]) -> Opening
-    ensures { λ r. ⌜ OpeningStep (now (text .entry)) r ⌝ }
+fn read_opening(text: &[u8]) -> Progress
+    ensures { λ r. ⌜ r ≡ openingRead (now (text .entry)) ⌝ }
 {
     let mut line: u32 = 1;
     let head = lines::head_line(text, line);
     let first = head.refusal;
     if first.number != 0 {
-        return Opening {
-            refusal: first,
-            switches: 0,
-            one: 0,
-            nodes: 0,
-            outputs: 0,
-            line: 0,
-            next: 0,
-        };
+        return stopped(first);
     }
     line += 1;
     let one = lines::one_line(text, head.next, line);
     let second = one.refusal;
-    Opening {
+    if second.number != 0 {
+        return stopped(second);
+    }
+    Progress {
         refusal: second,
         switches: head.switches,
         one: one.one,
         nodes: head.nodes,
         outputs: head.outputs,
+        count: 0,
         line: line + 1,
         next: one.next,
+        found: false,
+        node: Node {
+            x: 0,
+            l: 0,
+            h: 0,
+            t: 0,
+        },
     }
 }
 
-// The n node lines from a position on, of which the first has the number `line`: an entry of the arrays for each. The arrays are
-// cleared first.
-fn read_nodes(
+// The next node's line, if one is due: where the reader stands after it. The table holds the node then, and its place is marked.
+pub fn next_node(
     text: &[u8],
-    at: usize,
-    line: u32,
-    xs: &mut [u16; MAX_NODES],
-    ls: &mut [u16; MAX_NODES],
-    hs: &mut [u16; MAX_NODES],
-    ts: &mut [u16; MAX_NODES],
-    v: u16,
-    one: u16,
-    n: usize,
-) -> NodesRead
-    requires { ⌜ (n ≤ maxNodes) × (line ≤ 65536) ⌝ }
-    ensures { λ r.
-        ⌜ NodesStep (now (text .entry)) at line v one n (now (xs .exit)) (now (ls .exit)) (now (hs .exit)) (now (ts .exit)) r ⌝ }
+    p: Progress,
+    table: &mut [u16; TABLE],
+    seen: &mut [u8; SEEN],
+) -> Progress
+    requires { ⌜ Ready p (now table) (now seen) ⌝ }
+    ensures { λ r. ⌜ NodeTaken (now (text .entry)) p (now (table .entry)) r (now (table .exit)) (now (seen .exit)) ⌝ }
 {
-    clear_table(xs, ls, hs, ts);
-    let mut next = at;
-    let mut k: usize = 0;
-    while k < n {
-        let r = lines::node_line(text, next, line + k as u32, xs, ls, hs, ts, v, one, k);
-        let refusal = r.refusal;
-        if refusal.number != 0 {
-            return NodesRead { refusal, next };
-        }
-        xs[k] = r.x;
-        ls[k] = r.l;
-        hs[k] = r.h;
-        ts[k] = r.t;
-        next = r.next;
-        k += 1;
+    let mut after = p;
+    after.found = false;
+    if p.nodes as usize <= p.count {
+        return after;
     }
-    NodesRead {
-        refusal: Refusal { number: 0, line: 0 },
-        next,
+    let r = lines::node_line(text, p.next, p.line, p.count, table, seen);
+    let refusal = r.refusal;
+    if refusal.number != 0 {
+        return stopped(refusal);
     }
+    let node = Node {
+        x: r.x,
+        l: r.l,
+        h: r.h,
+        t: r.t,
+    };
+    table::put_entry(table, p.count + 2, node);
+    seen::mark(seen, node);
+    after.count = p.count + 1;
+    after.line = p.line + 1;
+    after.next = r.next;
+    after.found = true;
+    after.node = node;
+    after
+}
+
+// The first two lines, and the first node's line, if one is due.
+pub fn first_node(text: &[u8], table: &mut [u16; TABLE], seen: &mut [u8; SEEN]) -> Progress
+    requires { ⌜ (now table ≡ zeros (4 * maxIds)) × (now seen ≡ zeros maxSeen) ⌝ }
+    ensures { λ r. ⌜ Started (now (text .entry)) r (now (table .exit)) (now (seen .exit)) ⌝ }
+{
+    let p = read_opening(text);
+    table::open(table, p.switches, p.one);
+    next_node(text, p, table, seen)
+}
+
+// Whether the last step found a node, and which.
+pub fn found(p: Progress) -> bool
+    ensures { λ r. ⌜ r ≡ p .found ⌝ }
+{
+    p.found
+}
+
+pub fn node(p: Progress) -> Node
+    ensures { λ r. ⌜ r ≡ p .node ⌝ }
+{
+    p.node
 }
 
 // The k lines of the outputs from a position on, of which the first has the number `line`, after n nodes.
@@ -119,19 +150,18 @@ fn read_outs(
     text: &[u8],
     at: usize,
     line: u32,
-    ts: &[u16; MAX_NODES],
-    one: u16,
     n: usize,
     k: usize,
+    table: &[u16; TABLE],
 ) -> OutsRead
-    requires { ⌜ (n ≤ maxNodes) × (k ≤ maxOutputs) × (line ≤ 131072) ⌝ }
-    ensures { λ r. ⌜ ((v : ℕ) (xs ls hs : List ℕ) → OutsStep (now (text .entry)) at line v one n k xs ls hs (now (ts .entry)) r) ⌝ }
+    requires { ⌜ (n ≤ maxNodes) × (k ≤ maxOutputs) × (line ≤ n + 3) × (Terminals (now table)) ⌝ }
+    ensures { λ r. ⌜ OutsOf (now (text .entry)) at line n k (now (table .entry)) r ⌝ }
 {
     let mut outs = [0u16; MAX_OUTPUTS];
     let mut next = at;
     let mut j: usize = 0;
     while j < k {
-        let r = lines::out_line(text, next, line + j as u32, ts, one, n, j);
+        let r = lines::out_line(text, next, line + j as u32, n, j, table);
         let refusal = r.refusal;
         if refusal.number != 0 {
             return OutsRead {
@@ -167,84 +197,54 @@ fn no_job(refusal: Refusal) -> JobRead
     }
 }
 
-// The line `(end)`, then ground 10 and ground 11: the answer for a job whose nodes are in the arrays and whose outputs are read.
-fn finish(text: &[u8], ts: &[u16; MAX_NODES], o: Opening, outs: OutsRead) -> JobRead
-    requires { ⌜ Listed o outs ⌝ }
+// The line `(end)`, number `line`, then ground 10 and ground 11: the answer for a job whose nodes are in the table and whose outputs are read.
+fn read_last(text: &[u8], p: Progress, o: OutsRead, table: &[u16; TABLE]) -> JobRead
+    requires { ⌜ (Bounded p (now table)) × (Padded (p .outputs) (o .outs)) ⌝ }
     ensures { λ r.
-        ⌜ ((xs ls hs : List ℕ)
-        → r ≡ jobRead (sizeTested (readEnd (outlined o outs xs ls hs (now (ts .entry))) (endLine o) (linesOf (drop (outs .next) (now (text .entry))))))) ⌝ }
+        ⌜ r ≡ jobRead (sizeTested (readEnd (tabled (now (table .entry)) (p .count) (take (p .outputs) (o .outs))) (p .line + p .outputs) (linesOf (drop (o .next) (now (text .entry)))))) ⌝ }
 {
-    let n = o.nodes as usize;
-    let k = o.outputs as usize;
-    let last = o.line + n as u32 + k as u32;
-    let end = lines::end_line(text, outs.next, last);
+    let n = p.count;
+    let k = p.outputs as usize;
+    let last = p.line + k as u32;
+    let end = lines::end_line(text, o.next, last);
     if end.number != 0 {
         return no_job(end);
     }
-    let ids = outs.outs;
-    if counts::too_large(ts, &ids, o.one, n, k) {
+    let ids = o.outs;
+    if wires::too_large(table, &ids, n, k) {
         return no_job(Refusal {
             number: 11,
             line: last,
         });
     }
+    let zeroth = table::entry_at(table, 0);
+    let first = table::entry_at(table, 1);
     JobRead {
         refusal: Refusal { number: 0, line: 0 },
         job: Job {
-            switches: o.switches,
-            one: o.one,
-            nodes: o.nodes,
-            outputs: o.outputs,
+            switches: zeroth.x,
+            one: first.t,
+            nodes: n as u16,
+            outputs: p.outputs,
             outs: ids,
         },
     }
 }
 
-// All lines in turn. After a refusal the arrays may hold entries.
-fn read_lines(
-    text: &[u8],
-    xs: &mut [u16; MAX_NODES],
-    ls: &mut [u16; MAX_NODES],
-    hs: &mut [u16; MAX_NODES],
-    ts: &mut [u16; MAX_NODES],
-) -> JobRead
-    ensures { λ r. ⌜ LinesRead (now (text .entry)) (now (xs .exit)) (now (ls .exit)) (now (hs .exit)) (now (ts .exit)) r ⌝ }
+// The outputs and the line `(end)`: the reader's answer.
+pub fn finish(text: &[u8], p: Progress, table: &[u16; TABLE]) -> JobRead
+    requires { ⌜ Bounded p (now table) ⌝ }
+    ensures { λ r.
+        ⌜ r ≡ jobRead (sizeTested (unlessRefused (p .refusal) (readOuts (p .outputs) (tabled (now (table .entry)) (p .count) []) (p .line) (linesOf (drop (p .next) (now (text .entry))))))) ⌝ }
 {
-    let o = read_opening(text);
-    let opening = o.refusal;
-    if opening.number != 0 {
-        return no_job(opening);
+    let stop = p.refusal;
+    if stop.number != 0 {
+        return no_job(stop);
     }
-    let n = o.nodes as usize;
-    let k = o.outputs as usize;
-    let nodes = read_nodes(text, o.next, o.line, xs, ls, hs, ts, o.switches, o.one, n);
-    let node = nodes.refusal;
-    if node.number != 0 {
-        return no_job(node);
-    }
-    let outs = read_outs(text, nodes.next, o.line + n as u32, ts, o.one, n, k);
+    let outs = read_outs(text, p.next, p.line, p.count, p.outputs as usize, table);
     let out = outs.refusal;
     if out.number != 0 {
         return no_job(out);
     }
-    finish(text, ts, o, outs)
-}
-
-// All lines in turn, and what they say by value, with zeros where the node table holds zeros.
-pub fn read_text(text: &[u8]) -> TextRead
-    ensures { λ r. ⌜ r ≡ textRead (accepted (now (text .entry))) ⌝ }
-{
-    let mut xs = [0u16; MAX_NODES];
-    let mut ls = [0u16; MAX_NODES];
-    let mut hs = [0u16; MAX_NODES];
-    let mut ts = [0u16; MAX_NODES];
-    let read = read_lines(text, &mut xs, &mut ls, &mut hs, &mut ts);
-    let refused = read.refusal;
-    if refused.number != 0 {
-        clear_table(&mut xs, &mut ls, &mut hs, &mut ts);
-    }
-    TextRead {
-        read,
-        fields: Fields { xs, ls, hs, ts },
-    }
+    read_last(text, p, outs, table)
 }

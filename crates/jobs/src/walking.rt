@@ -3,7 +3,8 @@ use crate::Walked;
 use crate::table;
 use cells::checks;
 use common::Refusal;
-use diagram::walking;
+use diagram::table::TABLE;
+use diagram::walks;
 ghost use mathlib.Core.Path.{_≡_};
 ghost use Rattle.jobs.specs.Answer.{walked};
 ghost use Rattle.jobs.specs.Job.{walk};
@@ -25,8 +26,8 @@ fn no_walk() -> Walked
 pub fn walk(text: &[u8], setting: &[u8], output: u32) -> Walked
     ensures { λ r. ⌜ r ≡ walked (walk (now (text .entry)) (now (setting .entry)) output) ⌝ }
 {
-    let table = table::read_table(text);
-    let read = table.read;
+    let mut diagram = [0u16; TABLE];
+    let read = table::read_diagram(text, &mut diagram);
     let refusal = read.refusal;
     if refusal.number != 0 {
         return Walked { refusal, value: 0 };
@@ -38,18 +39,8 @@ pub fn walk(text: &[u8], setting: &[u8], output: u32) -> Walked
     if output >= job.outputs as u32 {
         return no_walk();
     }
-    let fields = table::fields_of(table);
     let id = job.outs[output as usize];
-    let n = job.nodes as usize;
-    let value = walking::walk_value(
-        &fields.xs,
-        &fields.ls,
-        &fields.hs,
-        job.switches,
-        n,
-        setting,
-        id,
-    );
+    let value = walks::walk_value(&diagram, job.nodes as usize, setting, id);
     Walked {
         refusal: Refusal { number: 0, line: 0 },
         value,

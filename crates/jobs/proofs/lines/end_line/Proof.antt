@@ -1,4 +1,4 @@
--- `jobs::lines::end_line` meets its contract. Assumes nothing.
+-- `jobs::lines::end_line` meets its contract.
 use native.Mathlib.Omega.{arith}
 use denote.Ref.{now}
 use Rattle.forms.proofs.Cases.{not-end}

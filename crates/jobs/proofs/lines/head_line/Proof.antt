@@ -1,4 +1,4 @@
--- `jobs::lines::head_line` meets its contract. Assumes nothing.
+-- `jobs::lines::head_line` meets its contract.
 use mathlib.Core.Path.{_∙_}
 use native.Mathlib.Omega.{arith}
 use denote.Ref.{now}

@@ -1,4 +1,4 @@
--- `jobs::reading::no_job` meets its contract. Assumes nothing.
+-- `jobs::reading::no_job` meets its contract.
 use borrow.Author.Needs.{needs}
 use Rattle.common.specs.Limits.{maxOutputs}
 use Rattle.jobs.specs.Answer.{noJob}

@@ -1,4 +1,4 @@
--- `jobs::table::put` meets its contract: a walk of its MIR, by hand. The borrow is opened, the entry is taken out of the row, stored to and put back, and the borrow is closed. Assumes nothing.
+-- `jobs::table::put` meets its contract: a walk of its MIR, by hand. The borrow is opened, the entry is taken out of the row, stored to and put back, and the borrow is closed.
 use mathlib.Core.Path.{refl, sym, ap, subst}
 use Prim.Native.Nat.{ℕ, _<_, _^_, _*_}
 use mathlib.Core.List.{List, [], _∷_}

@@ -50,7 +50,7 @@ use Rattle.jobs.specs.declared.JobRead.{JobRead}
 use Rattle.jobs.specs.Answer.{jobRead}
 use Rattle.jobs.specs.Job.{accepted, table}
 use Rattle.jobs.specs.Spread.{flat, begun, spread as spread-of}
-use Rattle.jobs.proofs.Filled.{table-length}
+use Rattle.jobs.proofs.Entries.{table-length}
 use Rattle.jobs.proofs.Lends.{lends, comes-home, lends-shared, shared-home, repeat-is}
 use Rattle.jobs.proofs.Spread.{spread-answered, read-few}
 use Rattle.jobs.proofs.JobRead as J
