@@ -1,10 +1,8 @@
 pub mod Canonical
 pub mod FaultLaws
-pub mod Lines
 pub mod Owners
 pub mod Running
 pub mod SeenLaws
-pub mod Stored
 pub mod TableLaws
 pub mod TableWalk
 pub mod Tables

@@ -1,12 +1,12 @@
 -- Laws of the flat table: an entry put at an id, the terminals' entries, and the diagram that a table holds.
 use Prim.Native.Nat.{ℕ, zero, suc, _+_, _*_, _≤_, _<_}
-use mathlib.Core.Path.{_≡_, refl, sym, ap, _∙_}
-use mathlib.Core.List.{List, [], _∷_, _++_}
+use mathlib.Core.Path.{_≡_, sym, ap, _∙_}
+use mathlib.Core.List.{List, []}
 use native.Mathlib.Omega.{arith}
 use native.Mathlib.Numerals.{add-one}
 use lib.ListN.{length, getD, take, set, length-set}
 use lib.Seq.{getD-set-same, getD-set-other, take-suc-set}
-use Rattle.common.specs.Limits.{maxNodes, maxIds}
+use Rattle.common.specs.Limits.{maxIds}
 use Rattle.common.specs.Lists.{tab}
 use Rattle.common.proofs.Lists.{length-tab, getD-tab}
 use Rattle.diagram.specs.declared.Node.{Node}

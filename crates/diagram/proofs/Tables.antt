@@ -1,4 +1,4 @@
--- Laws of tables by index: two that agree, and a test over all entries. Assumes nothing.
+-- Laws of tables by index: two that agree, and a test over all entries.
 use Prim.Native.Nat.{ℕ, zero, suc, _+_, _≤_, _<_}
 use mathlib.Core.Path.{_≡_, refl}
 use mathlib.Core.Bool.{Bool, true, false}

@@ -1,8 +1,9 @@
+-- The law, which the calls' contracts and the theorems rest on: Diagram, Walk, Wires, Faults, Facts.
+-- Working definitions, which only inner contracts cite: Table, Seen.
 pub mod Diagram
 pub mod Walk
 pub mod Wires
 pub mod Faults
-pub mod Stored
 pub mod Facts
 pub mod Table
 pub mod Seen

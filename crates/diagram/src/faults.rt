@@ -1,13 +1,16 @@
-// Document 01, "Grounds for sending a job back", 3 to 9: the lowest number that a node's line or an output's meets, 0 where it meets
-// none. The table holds what the lines before it say.
+// Document 01, "Grounds for sending a job back", 2 to 9: the lowest number that a line meets, 0 where it meets none. The table holds
+// what the lines before it say.
 use super::Node;
 use super::NodeValues;
-use super::grounds::alike;
 use super::seen::SEEN;
 use super::seen::doubled;
 use super::table::TABLE;
 use super::table::entry_at;
+use common::LABEL_H;
 use common::LABEL_V;
+use common::MAX_NODES;
+use common::MAX_OUTPUTS;
+use common::MAX_SWITCHES;
 ghost use mathlib.Core.Path.{_≡_};
 ghost use mathlib.Core.Bool.{_||_};
 ghost use mathlib.Core.List.{[]};
@@ -15,9 +18,45 @@ ghost use Prim.Native.Nat.{_+_, _≤_, _<_};
 ghost use lib.Dec.{leb};
 ghost use Rattle.common.specs.Limits.{maxNodes};
 ghost use Rattle.common.specs.Lists.{zeros};
-ghost use Rattle.diagram.specs.Faults.{alike, nodeFault, outFault};
+ghost use Rattle.diagram.specs.Faults.{headFault, oneFault, alike, nodeFault, outFault};
 ghost use Rattle.diagram.specs.Table.{tabled, Terminals, nodeGiven, laterFault};
 ghost use Rattle.diagram.specs.Seen.{Marked};
+
+// Ground 2, on the figures of the first line.
+pub fn head_fault(v: u32, n: u32, k: u32) -> u32
+    ensures { λ r. ⌜ r ≡ headFault v n k ⌝ }
+{
+    if MAX_SWITCHES < v as usize {
+        return 2;
+    }
+    if MAX_NODES < n as usize {
+        return 2;
+    }
+    if k < 1 {
+        return 2;
+    }
+    if MAX_OUTPUTS < k as usize { 2 } else { 0 }
+}
+
+// Ground 9, on the label of terminal 1.
+pub fn one_fault(t: u16) -> u32
+    ensures { λ r. ⌜ r ≡ oneFault t ⌝ }
+{
+    if t == LABEL_V { 9 } else { 0 }
+}
+
+// Ground 9: whether two labels are both `h` or both `v`.
+fn alike(t: u16, u: u16) -> bool
+    ensures { λ r. ⌜ r ≡ alike t u ⌝ }
+{
+    if t != u {
+        return false;
+    }
+    if t == LABEL_H {
+        return true;
+    }
+    t == LABEL_V
+}
 
 // Ground 6, from the entries of both children. A terminal's switch is above every node's, so it needs no test for the terminals.
 fn unordered(node: Node, low: Node, high: Node) -> bool

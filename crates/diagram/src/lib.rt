@@ -1,12 +1,8 @@
-// Diagrams: nodes, children, labels, the tests of a job's lines, the wires, the walk. A diagram is held in four flat arrays, of which
-// the first n entries are the nodes in rising id.
-pub mod entry; // entry.rt: the entry of an id
-pub mod grounds; // grounds.rt: grounds 2 to 9 on one line each
-pub mod counts; // counts.rt: how many rows and columns there are
-pub mod walking; // walking.rt: the diagram walk
+// Diagrams: nodes, children, labels, the tests of a job's lines, the wires, the walk. A diagram is held in one flat table, four numbers for
+// each id, the terminals' first.
 pub mod table; // table.rt: the flat table that holds a diagram
 pub mod seen; // seen.rt: marks for ground 8
-pub mod faults; // faults.rt: grounds 3 to 9 on a node's line and an output's
+pub mod faults; // faults.rt: grounds 2 to 9 on one line each
 pub mod wires; // wires.rt: the numbers of the wires, and how many there are
 pub mod walks; // walks.rt: the diagram walk
 

@@ -2,13 +2,25 @@
 // have lower ids."
 use super::table::TABLE;
 use super::table::entry_at;
-use super::walking::is_one;
 ghost use mathlib.Core.Path.{_≡_};
 ghost use mathlib.Core.List.{[]};
+ghost use lib.ListN.{getD};
+ghost use lib.Dec.{eqb};
 ghost use Prim.Native.Nat.{_+_, _≤_, _<_};
 ghost use Rattle.common.specs.Limits.{maxNodes, maxIds};
 ghost use Rattle.diagram.specs.Table.{tabled, Terminals, stepIn, Ends};
 ghost use Rattle.diagram.specs.Walk.{walkValue, Falls};
+
+// Whether a switch is 1. A switch past the setting's end reads as 0.
+fn is_one(setting: &[u8], x: usize) -> bool
+    ensures { λ r. ⌜ r ≡ eqb (getD (now (setting .entry)) x 0) 1 ⌝ }
+{
+    if x < setting.len() {
+        setting[x] == 1
+    } else {
+        false
+    }
+}
 
 // The child that the setting selects. A terminal is its own child.
 fn step(table: &[u16; TABLE], setting: &[u8], id: u16) -> u16

@@ -1,6 +1,5 @@
 // Document 01, "Placement" and ground 11: the numbers of the wires by id, and how many rows and columns there are.
 use super::WireTable;
-use super::counts::names_zero;
 use super::table::TABLE;
 use super::table::entry_at;
 use common::LABEL_B;
@@ -17,7 +16,7 @@ ghost use lib.ListN.{length, take};
 ghost use Rattle.common.specs.Labels.{labelH, labelV};
 ghost use Rattle.common.specs.Limits.{maxNodes, maxOutputs};
 ghost use Rattle.diagram.specs.Table.{tabled, Terminals, WireNumbers};
-ghost use Rattle.diagram.specs.Wires.{labelHas, tooLarge};
+ghost use Rattle.diagram.specs.Wires.{labelHas, anyZero, tooLarge};
 
 // Labels `h` and `b` have a row.
 pub fn has_row(label: u16) -> bool
@@ -58,6 +57,21 @@ pub fn number_wires(table: &[u16; TABLE], n: usize) -> WireTable
         height,
         width,
     }
+}
+
+// Whether one of the first k outputs names 0.
+pub fn names_zero(outs: &[u16; MAX_OUTPUTS], k: usize) -> bool
+    requires { ⌜ (k ≤ maxOutputs) × (k ≤ length (now outs)) ⌝ }
+    ensures { λ r. ⌜ r ≡ anyZero (take k (now (outs .entry))) ⌝ }
+{
+    let mut j = 0;
+    while j < k {
+        if outs[j] == 0 {
+            return true;
+        }
+        j += 1;
+    }
+    false
 }
 
 // Ground 11, of n nodes and k outputs: "R or C exceeds 128".

@@ -7,7 +7,6 @@ use crate::OutLine;
 use common::Refusal;
 use diagram::NodeValues;
 use diagram::faults;
-use diagram::grounds;
 use diagram::seen::SEEN;
 use diagram::table::TABLE;
 use forms::Form;
@@ -40,7 +39,7 @@ pub fn head_line(text: &[u8], line: u32) -> HeadLine
     let Form::Job(f) = forms::form_at(text, 0, line) else {
         return no_head(1, line);
     };
-    let number = grounds::head_fault(f.switches, f.nodes, f.outputs);
+    let number = faults::head_fault(f.switches, f.nodes, f.outputs);
     if number != 0 {
         return no_head(number, line);
     }
@@ -65,7 +64,7 @@ pub fn one_line(text: &[u8], at: usize, line: u32) -> OneLine
         };
     };
     let one = t as u16;
-    let number = grounds::one_fault(one);
+    let number = faults::one_fault(one);
     if number != 0 {
         return OneLine {
             refusal: Refusal { number, line },

@@ -1,7 +1,7 @@
 -- Map's answer: the refusal of the job, ground 14, or the placement of the diagram in the table.
 use Prim.Native.Nat.{ℕ, _+_, _*_, _-_, _≤_, _<_}
-use mathlib.Core.Path.{_≡_, refl, sym, ap, _∙_}
-use mathlib.Core.List.{List, [], _∷_}
+use mathlib.Core.Path.{_≡_, sym, ap, _∙_}
+use mathlib.Core.List.{List, []}
 use native.Mathlib.Omega.{arith}
 use native.Mathlib.Nat.{mul-le-mul}
 use lib.ListN.{length, getD, take}
@@ -17,7 +17,6 @@ use Rattle.diagram.specs.declared.WireTable.{WireTable}
 use Rattle.diagram.specs.Diagram.{Diagram, idCount}
 use Rattle.diagram.specs.Table.{entryIn, tabled, WireNumbers}
 use Rattle.diagram.specs.Wires.{rowCount, columnCount}
-use Rattle.diagram.specs.Facts.{Facts, Sizes}
 use Rattle.diagram.proofs.TableLaws.{idCount-tabled}
 use Rattle.jobs.specs.declared.Job.{Job}
 use Rattle.jobs.specs.declared.JobRead.{JobRead}

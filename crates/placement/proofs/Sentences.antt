@@ -9,7 +9,6 @@ use lib.Dec.{eqb}
 use borrow.Author.Tests.{eqb-true, eq-eqb, ne-eqb}
 use Rattle.common.specs.Lists.{bit}
 use Rattle.common.proofs.Lists.{and-left, and-right, and-both, or-cases, by-test, true-or-false, equal-or-not, below-or-not, getD-grid}
-use Rattle.cells.specs.declared.Cell.{Cell}
 use Rattle.cells.specs.declared.Cell.the-variants.{Off, Yes, No}
 use Rattle.cells.specs.Code.{codeOf}
 use Rattle.diagram.specs.Diagram.{Diagram, idCount, entry, entries, terminal, switchAt, lowAt, highAt, labelAt}

@@ -1,18 +1,18 @@
 -- Every mapped crossbar passes ground 12: its sizes are in range, its cells are R·C with codes at most 1 + 2·V, its output rows are
 -- below R and the unused ones 0.
-use Prim.Native.Nat.{ℕ, zero, suc, _+_, _-_, _*_, _≤_, _<_}
+use Prim.Native.Nat.{ℕ, _+_, _-_, _*_, _≤_, _<_}
 use mathlib.Core.Path.{_≡_, refl}
 use mathlib.Core.Logic.{⊎-elim}
 use mathlib.Core.Bool.{Bool, true, false}
-use mathlib.Core.List.{List, [], _∷_, _++_, map}
+use mathlib.Core.List.{[], map}
 use native.Mathlib.Omega.{arith}
 use lib.ListN.{length, getD, take, drop, length-map}
 use lib.Seq.{take-length, drop-length, take-at, drop-at}
 use lib.Dec.{eqb, leb, ltb}
 use borrow.Author.Tests.{lt-ltb, le-leb}
 use Rattle.common.specs.Limits.{maxRows, maxColumns, maxSwitches, maxOutputs}
-use Rattle.common.specs.Lists.{zeros, padded, tab, grid, all-of}
-use Rattle.common.proofs.Lists.{and-both, equal-or-not, length-grid, length-padded, all-of-grid, all-of-map, all-of-zeros}
+use Rattle.common.specs.Lists.{zeros, padded, all-of}
+use Rattle.common.proofs.Lists.{equal-or-not, length-grid, length-padded, all-of-grid, all-of-map, all-of-zeros}
 use Rattle.cells.specs.Code.{codeOf}
 use Rattle.cells.specs.Record.{size, inRange, sound}
 use Rattle.diagram.specs.Diagram.{Diagram}

@@ -1,16 +1,15 @@
 -- From a diagram held in a flat table, and the numbers of its wires: its on cells and edges fit the buffer, and stored into zeros they are
 -- its cells.
 use Prim.Native.Nat.{ℕ, zero, suc, _+_, _*_, _≤_, _<_}
-use mathlib.Core.Path.{_≡_, refl, sym, ap, _∙_}
+use mathlib.Core.Path.{_≡_, sym, ap, _∙_}
 use mathlib.Core.Logic.{⊎-elim}
 use mathlib.Core.Bool.{Bool, true, false, not}
 use mathlib.Core.List.{List, []}
 use native.Mathlib.Omega.{arith}
-use native.Mathlib.Numerals.{add-one}
 use lib.ListN.{length, getD}
 use lib.Dec.{eqb}
 use borrow.Author.Tests.{eqb-true, eq-eqb, ne-eqb}
-use Rattle.common.specs.Limits.{maxNodes, maxIds, maxSwitches}
+use Rattle.common.specs.Limits.{maxNodes, maxIds}
 use Rattle.common.specs.Lists.{zeros, padded}
 use Rattle.common.proofs.Lists.{true-or-false, at-or-below, length-tab}
 use Rattle.diagram.specs.declared.Node.{Node}
@@ -21,7 +20,7 @@ use Rattle.diagram.specs.Wires.{hasRow, hasColumn, rowOf, columnOf, rowOwners, 
 use Rattle.diagram.specs.Facts.{Facts, Sizes}
 use Rattle.diagram.proofs.TableLaws.{idCount-tabled, entry-tabled}
 use Rattle.placement.specs.Placement.{cells}
-use Rattle.placement.specs.Filling.{choose, cellPlace, edgePlaceIn, edgeCode, withOn, withEdge, withCells, withNodes, allCells, EdgeFits, CellsFit}
+use Rattle.placement.specs.Filling.{cellPlace, edgePlaceIn, edgeCode, withOn, withEdge, withCells, withNodes, allCells, CellsFit}
 use Rattle.placement.proofs.Count.{label-zero}
 use Rattle.placement.specs.Sentences.{childAt, IsEdge}
 use Rattle.placement.proofs.Filled.{Filled, Partly, Stored, partly-zeros, all-filled, one-store}

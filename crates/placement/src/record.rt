@@ -2,7 +2,7 @@
 use cells::Crossbar;
 use common::MAX_IDS;
 use common::MAX_OUTPUTS;
-use diagram::counts::names_zero;
+use diagram::wires::names_zero;
 ghost use mathlib.Core.Path.{_≡_};
 ghost use Prim.Native.Nat.{ℕ, _<_, _≤_};
 ghost use lib.ListN.{length, getD, take};

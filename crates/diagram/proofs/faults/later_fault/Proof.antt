@@ -3,7 +3,7 @@ use borrow.Author.Needs.{needs}
 use mathlib.Core.Path.{sym, _∙_}
 use mathlib.Core.Bool.{true, false}
 use native.Mathlib.Omega.{arith}
-use Rattle.common.specs.Limits.{maxNodes, maxIds}
+use Rattle.common.specs.Limits.{maxIds}
 use Rattle.common.specs.Outcome.{lowest}
 use Rattle.diagram.proofs.FaultLaws.{later-order, later-same-child, later-doubled, later-label}
 use Rattle.diagram.proofs.faults.later_fault.Statement.{statement}

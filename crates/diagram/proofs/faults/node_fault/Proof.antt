@@ -1,12 +1,11 @@
 -- `diagram::faults::node_fault` meets its contract: each return knows the tests that the line passed.
 use borrow.Author.Needs.{needs}
-use Prim.Native.Nat.{_<_, _≤_}
-use mathlib.Core.Path.{_≡_, sym, ap, _∙_}
+use mathlib.Core.Path.{sym, ap, _∙_}
 use mathlib.Core.List.{[]}
 use native.Mathlib.Omega.{arith}
 use Rattle.common.specs.Limits.{maxNodes, maxIds}
 use Rattle.diagram.specs.declared.Node.{Node}
-use Rattle.diagram.specs.Table.{entryIn, tabled, nodeGiven}
+use Rattle.diagram.specs.Table.{tabled, nodeGiven}
 use Rattle.diagram.proofs.TableLaws.{idCount-tabled}
 use Rattle.diagram.proofs.FaultLaws.{node-turn, node-switch, node-low, node-high, node-later}
 use Rattle.diagram.proofs.faults.node_fault.Statement.{statement}

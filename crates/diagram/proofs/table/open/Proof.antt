@@ -1,7 +1,7 @@
 -- `diagram::table::open` meets its contract.
 use borrow.Author.Needs.{needs}
 use mathlib.Core.Path.{_∙_}
-use Rattle.common.specs.Limits.{maxNodes, maxIds}
+use Rattle.common.specs.Limits.{maxIds}
 use Rattle.diagram.specs.Diagram.{terminal}
 use Rattle.diagram.specs.Table.{opened}
 use Rattle.diagram.proofs.table.open.Statement.{statement}

@@ -1,8 +1,7 @@
 -- The proof of the cycle of calls {walk_end}: the id is the measure, and each call is on a lower one.
 use borrow.Author.Needs.{needs}
 use native.Mathlib.Omega.{arith}
-use mathlib.Core.Path.{sym, ap, _∙_}
-use Rattle.diagram.specs.Table.{Ends, stays, goes}
+use Rattle.diagram.specs.Table.{stays, goes}
 use Prim.Native.Nat.{ℕ, _<_}
 use Rattle.diagram.proofs.walks.+walk_end.Lts-walk_end as walk-end-lts
 use Rattle.diagram.proofs.walks.+walk_end.Tie.{close}

@@ -1,5 +1,4 @@
 -- `placement::filling::all_cells` meets its contract: before each node the cells of the nodes below it are stored.
-use borrow.Author.Needs.{needs}
 use Prim.Native.Nat.{_+_, _-_, _≤_}
 use mathlib.Core.Path.{_≡_, refl, ap, _∙_}
 use mathlib.Core.Bool.{true, false}

@@ -1,5 +1,4 @@
 -- `placement::filling::child_of` meets its contract.
-use borrow.Author.Needs.{needs}
 use Rattle.diagram.specs.Table.{childOf}
 use Rattle.placement.proofs.filling.child_of.Statement.{statement}
 use Rattle.placement.proofs.filling.child_of.Tie as tie

@@ -1,4 +1,4 @@
--- `diagram::counts::names_zero` meets its contract: none of the first j outputs names 0. Assumes nothing.
+-- `diagram::wires::names_zero` meets its contract: none of the first j outputs names 0.
 use borrow.Author.Needs.{needs}
 use Prim.Native.Nat.{ℕ, _≤_, _<_, _-_}
 use mathlib.Core.Path.{_≡_, refl, sym}
@@ -10,8 +10,8 @@ use borrow.Author.Tests.{eq-eqb, ne-eqb}
 use Rattle.common.specs.Limits.{maxOutputs}
 use Rattle.common.specs.Lists.{any-of}
 use Rattle.diagram.proofs.Tables.{any-take-more, any-take-at}
-use Rattle.diagram.proofs.counts.names_zero.Statement.{statement}
-use Rattle.diagram.proofs.counts.names_zero.Tie as tie
+use Rattle.diagram.proofs.wires.names_zero.Statement.{statement}
+use Rattle.diagram.proofs.wires.names_zero.Tie as tie
 
 abbrev Inv-loop : tie.InvT-loop
 Inv-loop outs k j₀ j = (j ≤ k) × (any-of (λ (i : ℕ). eqb i 0) (take j outs) ≡ false)

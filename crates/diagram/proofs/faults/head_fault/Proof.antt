@@ -1,11 +1,11 @@
--- `diagram::grounds::head_fault` meets its contract: each test that the figures pass is true in the definition. Assumes nothing.
+-- `diagram::faults::head_fault` meets its contract: each test that the figures pass is true in the definition.
 use native.Mathlib.Omega.{arith}
 use borrow.Author.Tests.{le-leb, lt-leb}
 use Rattle.common.specs.Limits.{maxSwitches, maxNodes, maxOutputs}
 use Rattle.common.specs.Outcome.{lowest}
 use Rattle.diagram.specs.Faults.{headFault}
-use Rattle.diagram.proofs.grounds.head_fault.Statement.{statement}
-use Rattle.diagram.proofs.grounds.head_fault.Tie as tie
+use Rattle.diagram.proofs.faults.head_fault.Statement.{statement}
+use Rattle.diagram.proofs.faults.head_fault.Tie as tie
 
 returns : tie.Need-returns
 unfolding headFault lowest maxSwitches

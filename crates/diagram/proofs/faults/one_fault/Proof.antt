@@ -1,9 +1,9 @@
--- `diagram::grounds::one_fault` meets its contract. Assumes nothing.
+-- `diagram::faults::one_fault` meets its contract.
 use borrow.Author.Tests.{eq-eqb, ne-eqb}
 use Rattle.common.specs.Outcome.{lowest}
 use Rattle.diagram.specs.Faults.{oneFault}
-use Rattle.diagram.proofs.grounds.one_fault.Statement.{statement}
-use Rattle.diagram.proofs.grounds.one_fault.Tie as tie
+use Rattle.diagram.proofs.faults.one_fault.Statement.{statement}
+use Rattle.diagram.proofs.faults.one_fault.Tie as tie
 
 returns : tie.Need-returns
 unfolding oneFault lowest

@@ -1,8 +1,8 @@
--- `diagram::walking::is_one` meets its contract: past the end `getD` gives its default, 0.
+-- `diagram::walks::is_one` meets its contract: past the end `getD` gives its default, 0.
 use borrow.Author.Needs.{needs}
 use lib.ListN.{List·getD-eq-default}
-use Rattle.diagram.proofs.walking.is_one.Statement.{statement}
-use Rattle.diagram.proofs.walking.is_one.Tie as tie
+use Rattle.diagram.proofs.walks.is_one.Statement.{statement}
+use Rattle.diagram.proofs.walks.is_one.Tie as tie
 
 shared-slice-read-result : tie.Need-shared-slice-read-result
 shared-slice-read-result c = search needs

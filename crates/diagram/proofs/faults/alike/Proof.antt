@@ -1,8 +1,8 @@
--- `diagram::grounds::alike` meets its contract. Assumes nothing.
+-- `diagram::faults::alike` meets its contract.
 use borrow.Author.Tests.{eq-eqb, ne-eqb}
 use Rattle.diagram.specs.Faults.{alike}
-use Rattle.diagram.proofs.grounds.alike.Statement.{statement}
-use Rattle.diagram.proofs.grounds.alike.Tie as tie
+use Rattle.diagram.proofs.faults.alike.Statement.{statement}
+use Rattle.diagram.proofs.faults.alike.Tie as tie
 
 returns : tie.Need-returns
 unfolding alike
