@@ -20,9 +20,8 @@ use Rattle.jobs.specs.Job.{accepted, walk}
 use Rattle.jobs.proofs.Accepted.{accepted-job}
 use Rattle.placement.specs.Placement as placement
 use Rattle.placement.specs.Map.{mapJob}
-use Rattle.placement.proofs.Sound.{mapped-sound, cells-count, outs-count}
+use Rattle.placement.proofs.Sound.{cells-count, outs-count}
 use Rattle.conduction.specs.Light.{Lit, light}
-use Rattle.conduction.proofs.Light.{sound-row}
 use Rattle.crossbar.specs.Bytes.{recordLength, recordBytes, recordFrom}
 use Rattle.crossbar.specs.Host.{forRecord, hostMap, hostLight, MapCall, LightCall, WalkCall}
 use Rattle.crossbar.specs.Parts.{numberPart, lowPart}
@@ -32,7 +31,7 @@ use Rattle.crossbar.proofs.ReadBack.{for-record-long, light-written}
 use Rattle.agreement.specs.Demand3.{Demand3, Reads, Tells, standsOn}
 use Rattle.agreement.specs.Calls.{inBuffers, BuffersAgree, CallsAgree, Demand3OfCalls}
 use Rattle.agreement.proofs.Demand3.{demand-3}
-use Rattle.agreement.proofs.Slices.{chain-same, joined-padded}
+use Rattle.agreement.proofs.Slices.{joined-same}
 
 -- what tells one statement tells an equivalent one
 tells-same : (b : ℕ) (P Q : Type 0) → P ↔ Q → Tells b P → Tells b Q
@@ -55,11 +54,6 @@ module _ (text : List ℕ) (d : Diagram) (taken : accepted text ≡ done d) wher
   codes-all : length (whole .codes) ≡ size (whole .head)
   codes-all = rw (claim .placed) (cells-count d)
 
-  some-row : 0 < whole .head .rows
-  some-row =
-      let job = accepted-job text d taken in
-      rw (claim .placed) (sound-row (placement.crossbar d) (placement.cells d) (mapped-sound d (job .facts) (job .sizes)))
-
   module _ (n m : ℕ) (long : recordLength ≤ n) (fits : size (whole .head) ≤ m) where
     -- the buffers that map leaves
     abbrev head : List ℕ
@@ -78,11 +72,7 @@ module _ (text : List ℕ) (d : Diagram) (taken : accepted text ≡ done d) wher
     reads-same : (setting : List ℕ) (j : ℕ) → Reads (inBuffers head cells) setting j ↔ Reads whole setting j
     unfolding inBuffers
     reads-same setting j =
-        let alike = joined-padded (whole .head) (whole .codes) m codes-all fits setting in
-        rw record-is (
-          (λ chain. chain-same (whole .head .rows) (whole .head .columns) _ _ some-row alike chain),
-          (λ chain. chain-same (whole .head .rows) (whole .head .columns) _ _ some-row (λ r c hr hc. sym (alike r c hr hc)) chain),
-        )
+        rw (record-is, joined-same (whole .head) (whole .codes) m setting) ((λ chain. chain), (λ chain. chain))
 
     light-is : (setting : List ℕ) (room : ℕ) → hostLight head cells setting room ≡ light (whole .head) cells setting room
     light-is setting room = light-written (whole .head) outs-all n long cells setting room

@@ -16,7 +16,7 @@ use Rattle.cells.specs.Record.{Whole, size}
 use Rattle.cells.specs.Setting.{isSetting}
 use Rattle.diagram.specs.Diagram.{Diagram}
 use Rattle.diagram.specs.Walk.{walkEnd, walkValue}
-use Rattle.diagram.specs.Wires.{rowCount, columnCount}
+use Rattle.diagram.specs.Wires.{rowCount}
 use Rattle.diagram.specs.Facts.{Facts, Sizes}
 use Rattle.diagram.proofs.Walk.{walk-ends}
 use Rattle.diagram.proofs.Canonical.{canonical}
@@ -28,8 +28,8 @@ use Rattle.placement.proofs.Readings.{reads, outRow-below, out-on-row}
 use Rattle.placement.proofs.Sound.{mapped-sound, cells-count}
 use Rattle.conduction.specs.Chain.{row, place, Within}
 use Rattle.conduction.specs.Light.{Lit, light, joined, litBy}
-use Rattle.conduction.proofs.Light.{light-answers, light-accepts, sound-row}
-use Rattle.agreement.proofs.Slices.{chain-same, joined-padded, sound-padded}
+use Rattle.conduction.proofs.Light.{light-answers, light-accepts}
+use Rattle.agreement.proofs.Slices.{joined-same, light-same}
 use Rattle.agreement.specs.Demand3.{Demand3, Reads, WalksToOne, Tells, standsOn}
 
 -- the crossbar of a diagram
@@ -125,20 +125,6 @@ module _ (text : List ℕ) (d : Diagram) (facts : Facts d) (sizes : Sizes d) whe
   )
 
   -- the crossbar in a slice of any length that holds it
-  some-row : 0 < rowCount d
-  unfolding crossbar
-  some-row = sound-row (crossbar d) (cells d) (mapped-sound d facts sizes)
-
-  conducts-alike :
-      (setting : List ℕ) (n : ℕ)
-      → size (crossbar d) ≤ n
-      → (r c : ℕ)
-      → r < rowCount d
-      → c < columnCount d
-      → joined (crossbar d) (padded n (cells d)) setting r c ≡ joined (crossbar d) (cells d) setting r c
-  unfolding crossbar
-  conducts-alike setting n fits = joined-padded (crossbar d) (cells d) n (cells-count d) fits setting
-
   shown :
       (setting : List ℕ) (n room : ℕ) (a : Lit) (j : ℕ)
       → size (crossbar d) ≤ n
@@ -149,13 +135,8 @@ module _ (text : List ℕ) (d : Diagram) (facts : Facts d) (sizes : Sizes d) whe
   shown setting n room a j fits lights h =
       let answer = light-answers (crossbar d) (padded n (cells d)) setting room a lights .answer in
       let r = standsOn (whole d) j in
-      let alike = conducts-alike setting n fits in
-      let chains = answer .chains (row r) (row-within j h) in
-      tells (getD (a .wires) r 0) (Reads (whole d) setting j) (answer .bits r) (
-        (λ one. chain-same (rowCount d) (columnCount d) _ _ some-row alike (chains .0 one)),
-        (λ chain.
-            chains .1 (chain-same (rowCount d) (columnCount d) _ _ some-row (λ r c hr hc. sym (alike r c hr hc)) chain)),
-      )
+      tells (getD (a .wires) r 0) (Reads (whole d) setting j) (answer .bits r)
+      (rw (joined-same (crossbar d) (cells d) n setting) at (answer .chains (row r) (row-within j h)))
 
   lights :
       (setting : List ℕ) (n room : ℕ)
@@ -165,12 +146,13 @@ module _ (text : List ℕ) (d : Diagram) (facts : Facts d) (sizes : Sizes d) whe
       → (a : Lit) × (light (crossbar d) (padded n (cells d)) setting room ≡ done a)
   unfolding crossbar
   lights setting n room fits s h = (
-    litBy (crossbar d) (padded n (cells d)) setting,
-    light-accepts (crossbar d) (padded n (cells d)) setting room
-        (sound-padded (crossbar d) (cells d) n (cells-count d) fits (mapped-sound d facts sizes))
-        s
-        h,
+    litBy (crossbar d) (cells d) setting,
+    light-same (crossbar d) (cells d) n setting room enough
+        ∙ light-accepts (crossbar d) (cells d) setting room (mapped-sound d facts sizes) s h,
   )
+    where
+      enough : size (crossbar d) ≤ length (cells d)
+      enough = rw (cells-count d) (omega arith)
 
 module _ (text : List ℕ) (d : Diagram) (facts : Facts d) (sizes : Sizes d) (taken : accepted text ≡ done d) where
   -- ground 13 on walk, met or not

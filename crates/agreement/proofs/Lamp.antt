@@ -1,15 +1,13 @@
 -- Demand 2 of light, of the call: from its promise and `light-answers`.
-use Prim.Native.Nat.{ℕ}
-use mathlib.Core.Path.{_≡_, ap, _∙_}
-use mathlib.Core.List.{List}
+use mathlib.Core.Path.{ap, _∙_}
 use lib.ListN.{length}
-use Rattle.common.specs.Outcome.{done, bufferOf}
+use Rattle.common.specs.Outcome.{bufferOf}
 use Rattle.conduction.specs.Light.{Lit, light}
 use Rattle.conduction.proofs.Light.{light-answers}
 use Rattle.crossbar.specs.Bytes.{recordFrom}
 use Rattle.crossbar.specs.Host.{hostLight}
 use Rattle.crossbar.proofs.Parts.{calls-read}
-use Rattle.agreement.specs.Lamp.{LampShows, LampOfCalls}
+use Rattle.agreement.specs.Lamp.{LampOfCalls}
 use Rattle.agreement.proofs.Acceptance.{held-done}
 
 pub lamp-of-calls : LampOfCalls

@@ -1,6 +1,6 @@
 -- The round trips of the calls, from those of listings: what one call leaves in its buffers is what the next one reads.
-use Prim.Native.Nat.{ℕ, _+_, _*_, _-_, _≤_}
-use mathlib.Core.Path.{_≡_, refl, sym, ap, fun-ext, _∙_}
+use Prim.Native.Nat.{ℕ, _-_, _≤_}
+use mathlib.Core.Path.{_≡_, refl, sym, ap, _∙_}
 use mathlib.Core.Bool.{true, not}
 use mathlib.Core.List.{List, [], _++_}
 use lib.ListN.{length, take, drop}
@@ -10,19 +10,18 @@ use borrow.Author.Tests.{ltb-false, not-false}
 use Rattle.common.specs.Limits.{maxOutputs}
 use Rattle.common.specs.Lists.{padded, zeros, all-of}
 use Rattle.common.specs.Outcome.{Outcome, done, bufferOf, Answered}
-use Rattle.common.proofs.Lists.{length-tab, and-right, getD-padded-any}
+use Rattle.common.proofs.Lists.{length-tab, and-right}
 use Rattle.common.proofs.Outcome.{then-done, unless-done, not-met}
 use Rattle.cells.specs.declared.Crossbar.{Crossbar}
-use Rattle.cells.specs.Conducts.{joins}
-use Rattle.cells.specs.Record.{Whole, size, sound}
+use Rattle.cells.specs.Record.{Whole, size}
 use Rattle.jobs.proofs.Accepted.{accepted-job}
 use Rattle.placement.proofs.Sound.{cells-count, outs-count}
-use Rattle.conduction.specs.Light.{light, litBy, joined}
+use Rattle.conduction.specs.Light.{light}
 use Rattle.listings.specs.Listing.{print}
 use Rattle.listings.specs.Loading.{load}
 use Rattle.listings.proofs.Loaded.{loaded-text, loaded-outs}
 use Rattle.listings.proofs.Printed.{taken-padded, sound-facts}
-use Rattle.listings.proofs.RoundTrip.{print-done, load-printed, sound-zeros, print-load-padded}
+use Rattle.listings.proofs.RoundTrip.{print-done, load-printed, print-load-padded}
 use Rattle.crossbar.specs.Bytes.{recordLength, recordBytes, recordFrom, holdsRecord}
 use Rattle.crossbar.specs.Host.{packed, cellsDue, forRecord, ofRecord, hostLoad, hostLight, hostPrint, MapCall, LightCall, PrintCall, LoadCall}
 use Rattle.crossbar.specs.Parts.{numberPart, lowPart}
@@ -32,6 +31,7 @@ use Rattle.crossbar.proofs.Records.{holds-enough}
 use Rattle.crossbar.proofs.ReadBack.{for-record-long, light-written, print-written}
 use Rattle.agreement.specs.RoundTrips.{AreBytes, Again, RoundTrips}
 use Rattle.agreement.proofs.Calls.{mapped-by}
+use Rattle.agreement.proofs.Slices.{light-same}
 
 -- a text that print left: its bytes are the first of the buffer, as many as the value says
 record Text (o : Outcome (List ℕ)) (printed : ℕ) (text : List ℕ) : Type 0 where
@@ -194,20 +194,6 @@ load-print text head₀ cells₀ loaded head cells text₀ printed text₁ kept 
       then-kept .buffer ∙ ap (bufferOf room (λ (t : List ℕ). t)) outcome,
     )
 
--- zeros past the cells change nothing of the light
-joined-same : (x : Crossbar) (cells : List ℕ) (m : ℕ) (setting : List ℕ) → joined x (padded m cells) setting ≡ joined x cells setting
-unfolding joined joins
-joined-same x cells m setting = fun-ext (λ r. fun-ext (λ c. rw (getD-padded-any m cells (r * x .columns + c))))
-
-light-same :
-    (x : Crossbar) (cells : List ℕ) (m : ℕ) (setting : List ℕ) (room : ℕ)
-    → sound x cells ≡ true
-    → light x (padded m cells) setting room ≡ light x cells setting room
-unfolding light litBy padded
-light-same x cells m setting room h =
-    let enough = sound-facts x cells h .enough in
-    rw (sound-zeros x cells (m - length cells) enough, joined-same x cells m setting)
-
 load-light :
     (text head₀ cells₀ : List ℕ) (loaded : ℕ) (head cells setting wires₀ : List ℕ) (lit : ℕ) (wires : List ℕ)
     → LoadCall text head₀ cells₀ loaded head cells
@@ -226,7 +212,7 @@ load-light text head₀ cells₀ loaded head cells setting wires₀ lit wires ke
     ap (λ (h : List ℕ). hostLight h cells setting room) (l .head-is)
     ∙ light-written (w .head) (loaded-outs text m w (l .outcome)) n (l .long) cells setting room
     ∙ ap (λ (c : List ℕ). light (w .head) c setting room) (l .cells-are)
-    ∙ light-same (w .head) (w .codes) m setting room (loaded-text text m w (l .outcome) .0) in
+    ∙ light-same (w .head) (w .codes) m setting room (sound-facts (w .head) (w .codes) (loaded-text text m w (l .outcome) .0) .enough) in
     (w, l .outcome, rw outcome at then-kept)
 
 map-print-load :
