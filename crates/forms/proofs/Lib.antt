@@ -1,9 +1,6 @@
 pub mod Sorts
 pub mod Cases
-pub mod Pattern
-pub mod Reading
 pub mod Template
-pub mod Lines
 pub mod Parts
 pub mod Steps
 pub mod CellLine

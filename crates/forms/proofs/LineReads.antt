@@ -10,7 +10,7 @@ use lib.ListN.{length, drop}
 use lib.Dec.{eqb}
 use Rattle.common.specs.Outcome.{Outcome, done, refused}
 use Rattle.common.proofs.Lists.{below-or-not}
-use Rattle.figures.specs.Line.{Lines, left, _⏎_, linesOf, lineEnd}
+use Rattle.figures.specs.Line.{Lines, left, _⏎_, linesOf, afterFirst, lineEnd}
 use Rattle.figures.proofs.Ends.{line-ended, line-left, not-before}
 use Rattle.forms.specs.declared.Form.{Form}
 use Rattle.forms.specs.declared.LineRead.{LineRead}
@@ -105,3 +105,8 @@ module _ {k : ℕ} {t : Template} {f : List ℕ → Form} (kind : Kind k t f) (s
           let v = kind .holds (o .vals) (due-fits t n (linesOf (drop at s)) o d) in
           absurd (let y : _≡_ {A = ℕ} 0 1 = cc (ap (λ (x : LineRead). ofKind k (x .form)) (read-done o d)) in omega arith)
       by (refused a b) d = let g = read-not a b d in (g .0, ap refusalIn (g .1))
+
+-- the lines after the first, where a line feed ends it
+pub lines-after : (s : List ℕ) (at : ℕ) → lineEnd s at < length s → afterFirst (linesOf (drop at s)) ≡ linesOf (drop (lineEnd s at + 1) s)
+unfolding afterFirst
+lines-after s at h = rw (line-ended s at h)

@@ -7,11 +7,10 @@ use lib.ListN.{getD}
 use lib.Dec.{leb}
 use Rattle.cells.specs.declared.Cell.{Cell}
 use Rattle.cells.specs.declared.Cell.the-variants.{On, Yes, No}
-use Rattle.figures.specs.Line.{Lines, left, _⏎_}
 use Rattle.forms.specs.declared.Form.{Form}
 use Rattle.forms.specs.declared.Form.the-variants as form
 use Rattle.forms.specs.Template.{values}
-use Rattle.forms.specs.Forms.{jobForm, oneForm, nodeForm, outForm, endForm, crossbarForm, onForm, yesForm, noForm}
+use Rattle.forms.specs.Forms.{onForm, yesForm, noForm}
 
 -- a cell line's row, column and cell
 pub record Placed : Type 0 where
@@ -60,41 +59,6 @@ unfoldable pub sizeFrom : List ℕ → Form
 sizeFrom vs =
     form.Size (record { rows = getD vs 0 0; columns = getD vs 1 0; switches = getD vs 2 0; outputs = getD vs 3 0 })
 
-unfoldable pub onFrom : List ℕ → Form
-onFrom vs = form.Cell (record { row = getD vs 0 0; column = getD vs 1 0; cell = On })
-
-unfoldable pub yesFrom : List ℕ → Form
-yesFrom vs = form.Cell (record { row = getD vs 0 0; column = getD vs 1 0; cell = Yes (switchOf (getD vs 2 0)) })
-
-unfoldable pub noFrom : List ℕ → Form
-noFrom vs = form.Cell (record { row = getD vs 0 0; column = getD vs 1 0; cell = No (switchOf (getD vs 2 0)) })
-
 -- ground 1: "The line is missing or not the form due."
 unfoldable pub notDue : ℕ → Form
 notDue n = form.Refused (record { number = 1; line = n })
-
--- the form of the values, or else another answer
-unfoldable pub either : Option (List ℕ) → (List ℕ → Form) → Form → Form
-either none f other = other
-either (some vs) f other = f vs
-
--- the form of a line, number n of the text, where it can only be a cell line
-unfoldable pub cellLine : List ℕ → ℕ → Form
-cellLine l n =
-    either (values onForm l) onFrom (either (values yesForm l) yesFrom (either (values noForm l) noFrom (notDue n)))
-
--- the form of a line, number n of the text
-unfoldable pub formOf : List ℕ → ℕ → Form
-formOf l n =
-    either (values jobForm l) jobFrom
-    (either (values oneForm l) oneFrom
-    (either (values nodeForm l) nodeFrom
-    (either (values outForm l) outFrom
-    (either (values endForm l) endFrom
-    (either (values crossbarForm l) sizeFrom
-    (cellLine l n))))))
-
--- the form of the line due, number n of the text; ground 1 where it is missing
-unfoldable pub formIn : Lines → ℕ → Form
-formIn (left s) n = notDue n
-formIn (l ⏎ ls) n = formOf l n

@@ -6,19 +6,15 @@ use common::LABEL_B;
 use common::LABEL_H;
 use common::LABEL_V;
 use common::Refusal;
-use figures::Figure;
 use figures::NOWHERE;
 use figures::Past;
 use figures::figure_past;
 use figures::word_past;
 ghost use mathlib.Core.Path.{_≡_};
 ghost use Rattle.forms.specs.Template.{labelOf};
-ghost use Rattle.forms.specs.Pattern.{isItem, itemAt, valuesBy, refusedValues, answerOf};
-ghost use Rattle.forms.specs.Form.{switchOf, jobFrom, oneFrom, nodeFrom, outFrom, endFrom, sizeFrom, cellLine, formOf, formIn};
+ghost use Rattle.forms.specs.Form.{switchOf, jobFrom, oneFrom, nodeFrom, outFrom, endFrom, sizeFrom};
 ghost use Rattle.forms.specs.Read.{labelPast, readTo, lineRead, cellForm, cellRead, refusalIn};
 ghost use Rattle.forms.specs.Forms.{jobForm, oneForm, nodeForm, outForm, endForm, crossbarForm};
-ghost use Rattle.figures.specs.Line.{linesOf};
-ghost use lib.ListN.{drop};
 
 // Document 01, "Job text": `(job V N K)`.
 pub struct JobForm {
@@ -69,20 +65,6 @@ pub enum Form {
     Refused(Refusal),
 }
 
-// The bytes that stand for a figure and for a label in a pattern: `#` and `@`.
-const FIGURE: u8 = 35;
-
-const LABEL: u8 = 64;
-
-// The most values of a line: a node line, `(node I X (L H) T)`, has five.
-pub const MAX_VALUES: usize = 5;
-
-// The values of a line under a pattern, in turn and with zeros past them, or that the line does not fit it.
-struct Values {
-    ok: bool,
-    v: [u32; MAX_VALUES],
-}
-
 // "Labels T: `h` a row, `v` a column, `b` both"; 0 for any other byte.
 fn label_of(b: u8) -> u32
     ensures { λ r. ⌜ r ≡ labelOf b ⌝ }
@@ -96,220 +78,12 @@ fn label_of(b: u8) -> u32
     if b == b'b' { LABEL_B as u32 } else { 0 }
 }
 
-// What the byte `p` of a pattern takes at a position of a line: a figure, a label, or the byte itself with the value 0.
-fn item_at(line: &[u8], at: usize, p: u8) -> Figure
-    ensures { λ r. ⌜ r ≡ itemAt p (now (line .entry)) at ⌝ }
-{
-    if p == FIGURE {
-        return figures::read_figure(line, at);
-    }
-    if line.len() <= at {
-        return Figure::Missing;
-    }
-    let b = line[at];
-    if p == LABEL {
-        let t = label_of(b);
-        if t == 0 {
-            return Figure::Missing;
-        }
-        return Figure::At {
-            value: t,
-            next: at + 1,
-        };
-    }
-    if p == b {
-        Figure::At {
-            value: 0,
-            next: at + 1,
-        }
-    } else {
-        Figure::Missing
-    }
-}
-
-// Whether a byte of a pattern stands for a value.
-fn is_item(p: u8) -> bool
-    ensures { λ r. ⌜ r ≡ isItem p ⌝ }
-{
-    if p == FIGURE {
-        return true;
-    }
-    p == LABEL
-}
-
-// The answer for a line that does not fit.
-fn refused_values() -> Values
-    ensures { λ r. ⌜ r ≡ refusedValues ⌝ }
-{
-    Values {
-        ok: false,
-        v: [0; MAX_VALUES],
-    }
-}
-
-// The values of a line under a pattern. A pattern of more than MAX_VALUES fits no line.
-fn read_values(line: &[u8], pattern: &[u8]) -> Values
-    ensures { λ r. ⌜ r ≡ answerOf (valuesBy (now (pattern .entry)) (now (line .entry))) ⌝ }
-{
-    let mut v = [0u32; MAX_VALUES];
-    let mut count: usize = 0;
-    let mut at: usize = 0;
-    let mut i: usize = 0;
-    while i < pattern.len() {
-        let p = pattern[i];
-        let Figure::At { value, next } = item_at(line, at, p) else {
-            return refused_values();
-        };
-        if is_item(p) {
-            if MAX_VALUES <= count {
-                return refused_values();
-            }
-            v[count] = value;
-            count += 1;
-        }
-        at = next;
-        i += 1;
-    }
-    if at < line.len() {
-        return refused_values();
-    }
-    Values { ok: true, v }
-}
-
 // A cell's switch as a byte: the smaller of the figure and 255. A crossbar has at most 64 switches, so a figure above 255 and 255
 // are both out of range, and the reader of the listing answers both alike.
 fn switch_of(x: u32) -> u8
     ensures { λ r. ⌜ r ≡ switchOf x ⌝ }
 {
     if x <= 255 { x as u8 } else { 255 }
-}
-
-// The form of a line that can only be a cell line, or the refusal with ground 1.
-fn read_cell(line: &[u8], number: u32) -> Form
-    ensures { λ r. ⌜ r ≡ cellLine (now (line .entry)) number ⌝ }
-{
-    let on = read_values(line, b"(cell # # (on))");
-    if on.ok {
-        return Form::Cell(CellForm {
-            row: on.v[0],
-            column: on.v[1],
-            cell: Cell::On,
-        });
-    }
-    let yes = read_values(line, b"(cell # # (yes #))");
-    if yes.ok {
-        let x = switch_of(yes.v[2]);
-        return Form::Cell(CellForm {
-            row: yes.v[0],
-            column: yes.v[1],
-            cell: Cell::Yes(x),
-        });
-    }
-    let no = read_values(line, b"(cell # # (no #))");
-    if no.ok {
-        let x = switch_of(no.v[2]);
-        return Form::Cell(CellForm {
-            row: no.v[0],
-            column: no.v[1],
-            cell: Cell::No(x),
-        });
-    }
-    Form::Refused(Refusal {
-        number: 1,
-        line: number,
-    })
-}
-
-// The form `(job V N K)` of its values.
-fn job_of(job: Values) -> Form
-    ensures { λ r. ⌜ r ≡ jobFrom (job .v) ⌝ }
-{
-    Form::Job(JobForm {
-        switches: job.v[0],
-        nodes: job.v[1],
-        outputs: job.v[2],
-    })
-}
-
-// The form `(node I X (L H) T)` of its values.
-fn node_of(node: Values) -> Form
-    ensures { λ r. ⌜ r ≡ nodeFrom (node .v) ⌝ }
-{
-    Form::Node(NodeForm {
-        id: node.v[0],
-        x: node.v[1],
-        l: node.v[2],
-        h: node.v[3],
-        t: node.v[4],
-    })
-}
-
-// The form `(out J I)` of its values.
-fn out_of(out: Values) -> Form
-    ensures { λ r. ⌜ r ≡ outFrom (out .v) ⌝ }
-{
-    Form::Out(OutForm {
-        number: out.v[0],
-        target: out.v[1],
-    })
-}
-
-// The form `(crossbar R C V K)` of its values.
-fn size_of(size: Values) -> Form
-    ensures { λ r. ⌜ r ≡ sizeFrom (size .v) ⌝ }
-{
-    Form::Size(SizeForm {
-        rows: size.v[0],
-        columns: size.v[1],
-        switches: size.v[2],
-        outputs: size.v[3],
-    })
-}
-
-// The form of one line, given without its line feed. A line that is no form is refused with ground 1 and its number.
-fn read_form(line: &[u8], number: u32) -> Form
-    ensures { λ r. ⌜ r ≡ formOf (now (line .entry)) number ⌝ }
-{
-    let job = read_values(line, b"(job # # #)");
-    if job.ok {
-        return job_of(job);
-    }
-    let one = read_values(line, b"(one @)");
-    if one.ok {
-        return Form::One(one.v[0]);
-    }
-    let node = read_values(line, b"(node # # (# #) @)");
-    if node.ok {
-        return node_of(node);
-    }
-    let out = read_values(line, b"(out # #)");
-    if out.ok {
-        return out_of(out);
-    }
-    let end = read_values(line, b"(end)");
-    if end.ok {
-        return Form::End;
-    }
-    let size = read_values(line, b"(crossbar # # # #)");
-    if size.ok {
-        return size_of(size);
-    }
-    read_cell(line, number)
-}
-
-// The form of the line that starts at `at`, number `number` of the text; a refusal where no line feed ends it.
-pub fn form_at(text: &[u8], at: usize, number: u32) -> Form
-    ensures { λ r. ⌜ r ≡ formIn (linesOf (drop at (now (text .entry)))) number ⌝ }
-{
-    let end = figures::line_end(text, at);
-    if end < text.len() {
-        read_form(&text[at..end], number)
-    } else {
-        Form::Refused(Refusal {
-            number: 1,
-            line: number,
-        })
-    }
 }
 
 // A line read as the form that is due: the form, or the refusal with ground 1, and the position past its line feed, 0 after a refusal.

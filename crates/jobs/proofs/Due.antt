@@ -11,6 +11,7 @@ use lib.ListN.{length, getD, drop, drop-of-length-le}
 use lib.Seq.{drop-cons}
 use lib.Dec.{eqb, ltb}
 use borrow.Author.Tests.{ltb-true, eqb-true, not-false}
+use Rattle.common.specs.declared.Refusal.{Refusal}
 use Rattle.common.specs.Outcome.{Outcome, done, refused, _then_, _when_, lowest, unless, numberOf, lineOf, refusalOf, valueOf}
 use Rattle.common.proofs.Lists.{and-left, and-right, by-test}
 use Rattle.common.proofs.Outcome.{not-met, others}
@@ -21,10 +22,13 @@ use Rattle.forms.specs.declared.JobForm.{JobForm}
 use Rattle.forms.specs.declared.NodeForm.{NodeForm}
 use Rattle.forms.specs.declared.OutForm.{OutForm}
 use Rattle.forms.specs.Forms.{jobForm, oneForm, nodeForm, outForm, endForm}
-use Rattle.forms.specs.Form.{formIn}
+use Rattle.forms.specs.declared.LineRead.{LineRead}
+use Rattle.forms.specs.Form.{jobFrom, oneFrom, nodeFrom, outFrom, endFrom}
+use Rattle.forms.specs.Read.{readOf, lineRead, refusalIn}
+use Rattle.forms.specs.Template.{Template}
 use Rattle.forms.proofs.Sorts.{asJob, asOne, asNode, asOut, asEnd, ofKind, kindOf, valuesIn}
-use Rattle.forms.specs.Due.{due}
-use Rattle.forms.proofs.Lines.{due-job, no-job, due-one, no-one, due-node, no-node, due-out, no-out, due-end, no-end, lines-after}
+use Rattle.forms.specs.Due.{Taken, due}
+use Rattle.forms.proofs.LineReads.{job-kind, one-kind, node-kind, out-kind, end-kind, read-due, read-refused}
 use Rattle.diagram.specs.declared.Node.{Node}
 use Rattle.diagram.specs.Diagram.{Diagram, idCount}
 use Rattle.diagram.specs.Faults.{headFault, oneFault, nodeFault, outFault}
@@ -106,15 +110,6 @@ pub end-form : (g : Form) → g ≡ form.End → asEnd g ≡ some []
 unfolding ofKind kindOf valuesIn
 end-form g e = rw e
 
-module _ (ls : Lines) (n : ℕ) where
-  -- a label is 1, 2 or 3
-  pub node-label-most : (i x l h t : ℕ) → asNode (formIn ls n) ≡ some (i ∷ x ∷ l ∷ h ∷ t ∷ []) → t ≤ 3
-  unfolding nodeOf
-  node-label-most i x l h t e = node-label n ls _ (due-node ls n (i ∷ x ∷ l ∷ h ∷ t ∷ []) e) .1
-
-  pub one-label-most : (t : ℕ) → asOne (formIn ls n) ≡ some (t ∷ []) → t ≤ 3
-  one-label-most t e = one-label n ls _ (due-one ls n (t ∷ []) e) .1
-
 -- what the figures of a line without a fault are below
 pub record Below (d : Diagram) (i : ℕ) (n : Node) : Type 0 where
   pub turn : i ≡ idCount d
@@ -139,22 +134,32 @@ pub out-below : (d : Diagram) (j i : ℕ) → outFault d j i ≡ 0 → i < idCou
 unfolding outFault
 out-below d j i h = ltb-true i (idCount d) (not-false (ltb i (idCount d)) (not-met 4 _ _ (others 2 _ _ h)))
 
--- The answer of each line's function, from the form g that the line at a position yields and the number k of its fault.
-module _ (s : List ℕ) (at n : ℕ) (g : Form) (yields : g ≡ formIn (linesOf (drop at s)) n) where
-  pub head-none :
-      asJob g ≡ none
-      → record { refusal = record { number = 1; line = n }; switches = 0; nodes = 0; outputs = 0; next = 0 } ≡ headLine s at n
-  unfolding headLine headAnswer refusalOf numberOf lineOf valueOf
-  head-none e = rw (line-missing jobForm headFaultOf n _ (no-job (linesOf (drop at s)) n (ap asJob (sym yields) ∙ e)))
+-- the position past a line that is the form due
+next-is :
+    (t : Template) (f : List ℕ → Form) (s : List ℕ) (at n : ℕ) (r : LineRead)
+    → r ≡ lineRead t f s at n
+    → (o : Taken)
+    → due t n (linesOf (drop at s)) ≡ done o
+    → r .next ≡ lineEnd s at + 1
+unfolding lineRead readOf
+next-is t f s at n r e o d = ap (λ (x : LineRead). x .next) (e ∙ ap (readOf f (lineEnd s at + 1)) d)
 
-  module _ (f : JobForm) (is : g ≡ form.Job f) where
+-- The answer of each line's function, from the line r read as the form due and the number k of its fault.
+module _ (s : List ℕ) (at n : ℕ) (r : LineRead) (yields : r ≡ lineRead jobForm (λ vs. jobFrom vs) s at n) where
+  pub head-none :
+      asJob (r .form) ≡ none
+      → (q : Refusal)
+      → q ≡ refusalIn (r .form)
+      → record { refusal = q; switches = 0; nodes = 0; outputs = 0; next = 0 } ≡ headLine s at n
+  unfolding headLine headAnswer refusalOf numberOf lineOf valueOf
+  head-none e q is =
+      let d = read-refused job-kind s at n r yields e in rw (is, d .1, line-missing jobForm headFaultOf n _ (d .0))
+
+  module _ (f : JobForm) (is : r .form ≡ form.Job f) where
     head-found :
         due jobForm n (linesOf (drop at s))
-        ≡ done (record { vals = f .switches ∷ f .nodes ∷ f .outputs ∷ []; later = afterFirst (linesOf (drop at s)) })
-    head-found = due-job (linesOf (drop at s)) n _ (ap asJob (sym yields) ∙ job-form g f is)
-
-    pub head-inside : lineEnd s at < length s
-    head-inside = due-inside jobForm n s at _ head-found
+        ≡ done (record { vals = f .switches ∷ f .nodes ∷ f .outputs ∷ []; later = linesOf (drop (r .next) s) })
+    head-found = read-due job-kind s at n r yields _ (job-form (r .form) f is) .0
 
     module _ (k : ℕ) (fault : k ≡ headFault (f .switches) (f .nodes) (f .outputs)) where
       pub head-stops :
@@ -170,70 +175,64 @@ module _ (s : List ℕ) (at n : ℕ) (g : Form) (yields : g ≡ formIn (linesOf 
 
       pub head-goes :
           k ≡ 0
-          → (end : ℕ)
-          → end ≡ lineEnd s at
           → record {
             refusal = record { number = 0; line = 0 };
             switches = f .switches;
             nodes = f .nodes;
             outputs = f .outputs;
-            next = end + 1;
+            next = r .next;
           }
           ≡ headLine s at n
       unfolding headLine headAnswer headFaultOf refusalOf numberOf lineOf valueOf
-      head-goes h end e = rw (e, line-goes jobForm headFaultOf n _ _ _ head-found k fault h)
+      head-goes h =
+          rw (next-is jobForm (λ vs. jobFrom vs) s at n r yields _ head-found, line-goes jobForm headFaultOf n _ _ _ head-found k fault h)
 
-  pub one-none : asOne g ≡ none → record { refusal = record { number = 1; line = n }; one = 0; next = 0 } ≡ oneLine s at n
+module _ (s : List ℕ) (at n : ℕ) (r : LineRead) (yields : r ≡ lineRead oneForm (λ vs. oneFrom vs) s at n) where
+  pub one-none :
+      asOne (r .form) ≡ none → (q : Refusal) → q ≡ refusalIn (r .form) → record { refusal = q; one = 0; next = 0 } ≡ oneLine s at n
   unfolding oneLine oneAnswer refusalOf numberOf lineOf valueOf
-  one-none e = rw (line-missing oneForm oneFaultOf n _ (no-one (linesOf (drop at s)) n (ap asOne (sym yields) ∙ e)))
+  one-none e q is =
+      let d = read-refused one-kind s at n r yields e in rw (is, d .1, line-missing oneForm oneFaultOf n _ (d .0))
 
-  module _ (t : ℕ) (is : g ≡ form.One t) where
+  module _ (t : ℕ) (is : r .form ≡ form.One t) where
+    one-found : due oneForm n (linesOf (drop at s)) ≡ done (record { vals = t ∷ []; later = linesOf (drop (r .next) s) })
+    one-found = read-due one-kind s at n r yields _ (one-form (r .form) t is) .0
+
+    -- a label is 1, 2 or 3
     pub one-most : t ≤ 3
-    one-most = one-label-most (linesOf (drop at s)) n t (ap asOne (sym yields) ∙ one-form g t is)
-
-    one-found :
-        due oneForm n (linesOf (drop at s)) ≡ done (record { vals = t ∷ []; later = afterFirst (linesOf (drop at s)) })
-    one-found = due-one (linesOf (drop at s)) n _ (ap asOne (sym yields) ∙ one-form g t is)
-
-    pub one-inside : lineEnd s at < length s
-    one-inside = due-inside oneForm n s at _ one-found
+    one-most = one-label n _ _ one-found .1
 
     module _ (k : ℕ) (fault : k ≡ oneFault t) where
       pub one-stops : (k ≡ 0 → ⊥) → record { refusal = record { number = k; line = n }; one = 0; next = 0 } ≡ oneLine s at n
       unfolding oneLine oneAnswer oneFaultOf refusalOf numberOf lineOf valueOf
       one-stops h = rw (line-stops oneForm oneFaultOf n _ _ _ one-found k fault h)
 
-      pub one-goes :
-          k ≡ 0
-          → (end : ℕ)
-          → end ≡ lineEnd s at
-          → record { refusal = record { number = 0; line = 0 }; one = t; next = end + 1 } ≡ oneLine s at n
+      pub one-goes : k ≡ 0 → record { refusal = record { number = 0; line = 0 }; one = t; next = r .next } ≡ oneLine s at n
       unfolding oneLine oneAnswer oneFaultOf refusalOf numberOf lineOf valueOf
-      one-goes h end e = rw (e, line-goes oneForm oneFaultOf n _ _ _ one-found k fault h)
+      one-goes h =
+          rw (next-is oneForm (λ vs. oneFrom vs) s at n r yields _ one-found, line-goes oneForm oneFaultOf n _ _ _ one-found k fault h)
 
-  module _ (d : Diagram) where
-    pub node-none :
-        asNode g ≡ none
-        → record { refusal = record { number = 1; line = n }; x = 0; l = 0; h = 0; t = 0; next = 0 } ≡ nodeLine s at n d
-    unfolding nodeLine nodeAnswer refusalOf numberOf lineOf valueOf
-    node-none e = rw (line-missing nodeForm (nodeFaultOf d) n _ (no-node (linesOf (drop at s)) n (ap asNode (sym yields) ∙ e)))
+module _ (s : List ℕ) (at n : ℕ) (r : LineRead) (yields : r ≡ lineRead nodeForm (λ vs. nodeFrom vs) s at n) where
+  pub node-none :
+      (d : Diagram)
+      → asNode (r .form) ≡ none
+      → (q : Refusal)
+      → q ≡ refusalIn (r .form)
+      → record { refusal = q; x = 0; l = 0; h = 0; t = 0; next = 0 } ≡ nodeLine s at n d
+  unfolding nodeLine nodeAnswer refusalOf numberOf lineOf valueOf
+  node-none d e q is =
+      let m = read-refused node-kind s at n r yields e in
+      rw (is, m .1, line-missing nodeForm (nodeFaultOf d) n _ (m .0))
 
-    pub out-none : asOut g ≡ none → record { refusal = record { number = 1; line = n }; target = 0; next = 0 } ≡ outLine s at n d
-    unfolding outLine outAnswer refusalOf numberOf lineOf valueOf
-    out-none e = rw (line-missing outForm (outFaultOf d) n _ (no-out (linesOf (drop at s)) n (ap asOut (sym yields) ∙ e)))
-
-  module _ (f : NodeForm) (is : g ≡ form.Node f) where
-    pub node-most : f .t ≤ 3
-    node-most =
-        node-label-most (linesOf (drop at s)) n (f .id) (f .x) (f .l) (f .h) (f .t) (ap asNode (sym yields) ∙ node-form g f is)
-
+  module _ (f : NodeForm) (is : r .form ≡ form.Node f) where
     node-found :
         due nodeForm n (linesOf (drop at s))
-        ≡ done (record { vals = f .id ∷ f .x ∷ f .l ∷ f .h ∷ f .t ∷ []; later = afterFirst (linesOf (drop at s)) })
-    node-found = due-node (linesOf (drop at s)) n _ (ap asNode (sym yields) ∙ node-form g f is)
+        ≡ done (record { vals = f .id ∷ f .x ∷ f .l ∷ f .h ∷ f .t ∷ []; later = linesOf (drop (r .next) s) })
+    node-found = read-due node-kind s at n r yields _ (node-form (r .form) f is) .0
 
-    pub node-inside : lineEnd s at < length s
-    node-inside = due-inside nodeForm n s at _ node-found
+    pub node-most : f .t ≤ 3
+    unfolding nodeOf
+    node-most = node-label n _ _ node-found .1
 
     module _ (d : Diagram) (k : ℕ) (fault : k ≡ nodeFault d (f .id) (record { x = f .x; l = f .l; h = f .h; t = f .t })) where
       pub node-stops :
@@ -244,64 +243,63 @@ module _ (s : List ℕ) (at n : ℕ) (g : Form) (yields : g ≡ formIn (linesOf 
 
       pub node-goes :
           k ≡ 0
-          → (end : ℕ)
-          → end ≡ lineEnd s at
           → record {
             refusal = record { number = 0; line = 0 };
             x = f .x;
             l = f .l;
             h = f .h;
             t = f .t;
-            next = end + 1;
+            next = r .next;
           }
           ≡ nodeLine s at n d
       unfolding nodeLine nodeAnswer nodeFaultOf nodeOf refusalOf numberOf lineOf valueOf
-      node-goes q end e = rw (e, line-goes nodeForm (nodeFaultOf d) n _ _ _ node-found k fault q)
+      node-goes q =
+          rw (next-is nodeForm (λ vs. nodeFrom vs) s at n r yields _ node-found, line-goes nodeForm (nodeFaultOf d) n _ _ _ node-found k fault q)
 
-  module _ (f : OutForm) (is : g ≡ form.Out f) where
+module _ (s : List ℕ) (at n : ℕ) (r : LineRead) (yields : r ≡ lineRead outForm (λ vs. outFrom vs) s at n) where
+  pub out-none :
+      (d : Diagram)
+      → asOut (r .form) ≡ none
+      → (q : Refusal)
+      → q ≡ refusalIn (r .form)
+      → record { refusal = q; target = 0; next = 0 } ≡ outLine s at n d
+  unfolding outLine outAnswer refusalOf numberOf lineOf valueOf
+  out-none d e q is =
+      let m = read-refused out-kind s at n r yields e in
+      rw (is, m .1, line-missing outForm (outFaultOf d) n _ (m .0))
+
+  module _ (f : OutForm) (is : r .form ≡ form.Out f) where
     out-found :
         due outForm n (linesOf (drop at s))
-        ≡ done (record { vals = f .number ∷ f .target ∷ []; later = afterFirst (linesOf (drop at s)) })
-    out-found = due-out (linesOf (drop at s)) n _ (ap asOut (sym yields) ∙ out-form g f is)
-
-    pub out-inside : lineEnd s at < length s
-    out-inside = due-inside outForm n s at _ out-found
+        ≡ done (record { vals = f .number ∷ f .target ∷ []; later = linesOf (drop (r .next) s) })
+    out-found = read-due out-kind s at n r yields _ (out-form (r .form) f is) .0
 
     module _ (d : Diagram) (k : ℕ) (fault : k ≡ outFault d (f .number) (f .target)) where
       pub out-stops : (k ≡ 0 → ⊥) → record { refusal = record { number = k; line = n }; target = 0; next = 0 } ≡ outLine s at n d
       unfolding outLine outAnswer outFaultOf refusalOf numberOf lineOf valueOf
       out-stops q = rw (line-stops outForm (outFaultOf d) n _ _ _ out-found k fault q)
 
-      pub out-goes :
-          k ≡ 0
-          → (end : ℕ)
-          → end ≡ lineEnd s at
-          → record { refusal = record { number = 0; line = 0 }; target = f .target; next = end + 1 } ≡ outLine s at n d
+      pub out-goes : k ≡ 0 → record { refusal = record { number = 0; line = 0 }; target = f .target; next = r .next } ≡ outLine s at n d
       unfolding outLine outAnswer outFaultOf refusalOf numberOf lineOf valueOf
-      out-goes q end e = rw (e, line-goes outForm (outFaultOf d) n _ _ _ out-found k fault q)
+      out-goes q =
+          rw (next-is outForm (λ vs. outFrom vs) s at n r yields _ out-found, line-goes outForm (outFaultOf d) n _ _ _ out-found k fault q)
 
-  pub end-none : asEnd g ≡ none → record { number = 1; line = n } ≡ lastLine s at n
+module _ (s : List ℕ) (at n : ℕ) (r : LineRead) (yields : r ≡ lineRead endForm (λ vs. endFrom vs) s at n) where
+  pub end-none : asEnd (r .form) ≡ none → (q : Refusal) → q ≡ refusalIn (r .form) → q ≡ lastLine s at n
   unfolding lastLine endDue _then_ refusalOf numberOf lineOf
-  end-none e = rw (no-end (linesOf (drop at s)) n (ap asEnd (sym yields) ∙ e))
+  end-none e q is = let d = read-refused end-kind s at n r yields e in rw (is, d .1, d .0)
 
-  module _ (is : g ≡ form.End) where
-    end-found : due endForm n (linesOf (drop at s)) ≡ done (record { vals = []; later = afterFirst (linesOf (drop at s)) })
-    end-found = due-end (linesOf (drop at s)) n _ (ap asEnd (sym yields) ∙ end-form g is)
+  module _ (is : r .form ≡ form.End) where
+    end-whole :
+        endDue n (linesOf (drop at s))
+        ≡ unless (lowest ((10 when follows (linesOf (drop (r .next) s))) ∷ [])) (n + 1) (done [])
+    unfolding endDue _then_
+    end-whole = rw (read-due end-kind s at n r yields _ (end-form (r .form) is) .0)
 
-    pub end-inside : lineEnd s at < length s
-    end-inside = due-inside endForm n s at _ end-found
+    pub end-stops : r .next < length s → record { number = 10; line = n + 1 } ≡ lastLine s at n
+    unfolding lastLine lowest unless refusalOf numberOf lineOf
+    end-stops more = rw (end-whole, follows-yes s (r .next) more)
 
-    module _ (end : ℕ) (e : end ≡ lineEnd s at) where
-      end-whole :
-          endDue n (linesOf (drop at s))
-          ≡ unless (lowest ((10 when follows (linesOf (drop (end + 1) s))) ∷ [])) (n + 1) (done [])
-      unfolding endDue _then_
-      end-whole = rw (end-found, lines-after s at end-inside, e)
-
-      pub end-stops : end + 1 < length s → record { number = 10; line = n + 1 } ≡ lastLine s at n
-      unfolding lastLine lowest unless refusalOf numberOf lineOf
-      end-stops more = rw (end-whole, follows-yes s (end + 1) more)
-
-      pub end-goes : length s ≤ end + 1 → record { number = 0; line = 0 } ≡ lastLine s at n
-      unfolding lastLine lowest unless refusalOf numberOf lineOf
-      end-goes last = rw (end-whole, follows-no s (end + 1) last)
+    pub end-goes : length s ≤ r .next → record { number = 0; line = 0 } ≡ lastLine s at n
+    unfolding lastLine lowest unless refusalOf numberOf lineOf
+    end-goes last = rw (end-whole, follows-no s (r .next) last)

@@ -17,7 +17,7 @@ use Rattle.figures.proofs.Ends.{line-left}
 use Rattle.forms.specs.Template.{Template, values}
 use Rattle.forms.specs.Forms.{jobForm, oneForm, nodeForm, outForm, endForm}
 use Rattle.forms.specs.Due.{Taken, due}
-use Rattle.forms.proofs.Lines.{lines-after}
+use Rattle.forms.proofs.LineReads.{lines-after}
 use Rattle.diagram.specs.Diagram.{Diagram, bare, withNode, withOut}
 use Rattle.jobs.specs.declared.HeadLine.{HeadLine}
 use Rattle.jobs.specs.declared.OneLine.{OneLine}

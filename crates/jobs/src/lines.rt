@@ -20,11 +20,11 @@ ghost use Rattle.diagram.specs.Table.{entryIn, tabled, Terminals};
 ghost use Rattle.jobs.specs.LineSteps.{headLine, oneLine, nodeLine, outLine, lastLine};
 
 // The answer for a first line with a refusal.
-fn no_head(number: u32, line: u32) -> HeadLine
-    ensures { λ r. ⌜ r ≡ record { refusal = record { number = number; line = line }; switches = 0; nodes = 0; outputs = 0; next = 0 } ⌝ }
+fn no_head(refusal: Refusal) -> HeadLine
+    ensures { λ r. ⌜ r ≡ record { refusal = refusal; switches = 0; nodes = 0; outputs = 0; next = 0 } ⌝ }
 {
     HeadLine {
-        refusal: Refusal { number, line },
+        refusal,
         switches: 0,
         nodes: 0,
         outputs: 0,
@@ -36,19 +36,32 @@ fn no_head(number: u32, line: u32) -> HeadLine
 pub fn head_line(text: &[u8], line: u32) -> HeadLine
     ensures { λ r. ⌜ r ≡ headLine (now (text .entry)) 0 line ⌝ }
 {
-    let Form::Job(f) = forms::form_at(text, 0, line) else {
-        return no_head(1, line);
+    let read = forms::job_line(text, 0, line);
+    let form = read.form;
+    let Form::Job(f) = form else {
+        return no_head(forms::refusal_of(form));
     };
     let number = faults::head_fault(f.switches, f.nodes, f.outputs);
     if number != 0 {
-        return no_head(number, line);
+        return no_head(Refusal { number, line });
     }
     HeadLine {
         refusal: Refusal { number: 0, line: 0 },
         switches: f.switches as u16,
         nodes: f.nodes as u16,
         outputs: f.outputs as u16,
-        next: figures::line_end(text, 0) + 1,
+        next: read.next,
+    }
+}
+
+// The answer for the line `(one T)` with a refusal.
+fn no_one(refusal: Refusal) -> OneLine
+    ensures { λ r. ⌜ r ≡ record { refusal = refusal; one = 0; next = 0 } ⌝ }
+{
+    OneLine {
+        refusal,
+        one: 0,
+        next: 0,
     }
 }
 
@@ -56,26 +69,20 @@ pub fn head_line(text: &[u8], line: u32) -> HeadLine
 pub fn one_line(text: &[u8], at: usize, line: u32) -> OneLine
     ensures { λ r. ⌜ r ≡ oneLine (now (text .entry)) at line ⌝ }
 {
-    let Form::One(t) = forms::form_at(text, at, line) else {
-        return OneLine {
-            refusal: Refusal { number: 1, line },
-            one: 0,
-            next: 0,
-        };
+    let read = forms::one_line(text, at, line);
+    let form = read.form;
+    let Form::One(t) = form else {
+        return no_one(forms::refusal_of(form));
     };
     let one = t as u16;
     let number = faults::one_fault(one);
     if number != 0 {
-        return OneLine {
-            refusal: Refusal { number, line },
-            one: 0,
-            next: 0,
-        };
+        return no_one(Refusal { number, line });
     }
     OneLine {
         refusal: Refusal { number: 0, line: 0 },
         one,
-        next: figures::line_end(text, at) + 1,
+        next: read.next,
     }
 }
 
@@ -107,8 +114,10 @@ pub fn node_line(
     requires { ⌜ Marked (now seen) (tabled (now table) n [] .nodes) ⌝ }
     ensures { λ r. ⌜ r ≡ nodeLine (now (text .entry)) at line (tabled (now (table .entry)) n []) ⌝ }
 {
-    let Form::Node(f) = forms::form_at(text, at, line) else {
-        return no_node(Refusal { number: 1, line });
+    let read = forms::node_line(text, at, line);
+    let form = read.form;
+    let Form::Node(f) = form else {
+        return no_node(forms::refusal_of(form));
     };
     let t = f.t as u16;
     let values = NodeValues {
@@ -128,7 +137,18 @@ pub fn node_line(
         l: f.l as u16,
         h: f.h as u16,
         t,
-        next: figures::line_end(text, at) + 1,
+        next: read.next,
+    }
+}
+
+// The answer for an output's line with a refusal.
+fn no_out(refusal: Refusal) -> OutLine
+    ensures { λ r. ⌜ r ≡ record { refusal = refusal; target = 0; next = 0 } ⌝ }
+{
+    OutLine {
+        refusal,
+        target: 0,
+        next: 0,
     }
 }
 
@@ -145,25 +165,19 @@ pub fn out_line(
     requires { ⌜ Terminals (now table) ⌝ }
     ensures { λ r. ⌜ r ≡ outLine (now (text .entry)) at line (tabled (now (table .entry)) n (zeros k)) ⌝ }
 {
-    let Form::Out(f) = forms::form_at(text, at, line) else {
-        return OutLine {
-            refusal: Refusal { number: 1, line },
-            target: 0,
-            next: 0,
-        };
+    let read = forms::out_line(text, at, line);
+    let form = read.form;
+    let Form::Out(f) = form else {
+        return no_out(forms::refusal_of(form));
     };
     let number = faults::out_fault(table, n, k, f.number, f.target);
     if number != 0 {
-        return OutLine {
-            refusal: Refusal { number, line },
-            target: 0,
-            next: 0,
-        };
+        return no_out(Refusal { number, line });
     }
     OutLine {
         refusal: Refusal { number: 0, line: 0 },
         target: f.target as u16,
-        next: figures::line_end(text, at) + 1,
+        next: read.next,
     }
 }
 
@@ -172,10 +186,12 @@ pub fn end_line(text: &[u8], at: usize, line: u32) -> Refusal
     requires { ⌜ line < 4294967295 ⌝ }
     ensures { λ r. ⌜ r ≡ lastLine (now (text .entry)) at line ⌝ }
 {
-    let Form::End = forms::form_at(text, at, line) else {
-        return Refusal { number: 1, line };
+    let read = forms::end_line(text, at, line);
+    let form = read.form;
+    let Form::End = form else {
+        return forms::refusal_of(form);
     };
-    if figures::line_end(text, at) + 1 < text.len() {
+    if read.next < text.len() {
         return Refusal {
             number: 10,
             line: line + 1,

@@ -24,7 +24,7 @@ use Rattle.forms.specs.Form.{Placed, placed}
 use Rattle.forms.specs.Template.{line}
 use Rattle.forms.specs.Due.{Taken, due}
 use Rattle.forms.specs.Forms.{refusedForm, outForm, endForm, crossbarForm}
-use Rattle.forms.proofs.Lines.{lines-after}
+use Rattle.forms.proofs.LineReads.{lines-after}
 use Rattle.jobs.specs.Job.{accepted}
 use Rattle.jobs.proofs.Accepted.{accepted-job}
 use Rattle.jobs.proofs.Refusals.{Named, named-done, named-refused, named-then, named-unless, named-due, by-number, accepted-done}
