@@ -1,21 +1,20 @@
 -- The answers of the functions of `lines.rt`, one for each kind of line, by the form that the line yields: a line that is not the form
 -- due is refused, and one that is gives its values unless it meets a ground.
-use Prim.Native.Nat.{ℕ, zero, suc, _+_, _≤_, _<_}
+use Prim.Native.Nat.{ℕ, suc, _+_, _≤_, _<_}
 use mathlib.Core.Path.{_≡_, refl, sym, ap, _∙_}
 use mathlib.Core.Logic.{⊎-elim}
 use mathlib.Core.Bool.{true, false, _&&_}
 use mathlib.Core.Option.{some, none}
 use mathlib.Core.List.{List, [], _∷_}
-use native.Mathlib.Omega.{arith}
 use lib.ListN.{length, getD, drop, drop-of-length-le}
 use lib.Seq.{drop-cons}
 use lib.Dec.{eqb, ltb}
 use borrow.Author.Tests.{ltb-true, eqb-true, not-false}
 use Rattle.common.specs.declared.Refusal.{Refusal}
-use Rattle.common.specs.Outcome.{Outcome, done, refused, _then_, _when_, lowest, unless, numberOf, lineOf, refusalOf, valueOf}
+use Rattle.common.specs.Outcome.{_then_, done, refused, _then_, _when_, lowest, unless, numberOf, lineOf, refusalOf, valueOf}
 use Rattle.common.proofs.Lists.{and-left, and-right, by-test}
 use Rattle.common.proofs.Outcome.{not-met, others}
-use Rattle.figures.specs.Line.{Lines, left, _⏎_, linesOf, afterFirst, follows, lineEnd, onto}
+use Rattle.figures.specs.Line.{Lines, left, _⏎_, linesOf, follows, lineEnd, onto}
 use Rattle.forms.specs.declared.Form.{Form}
 use Rattle.forms.specs.declared.Form.the-variants as form
 use Rattle.forms.specs.declared.JobForm.{JobForm}
@@ -33,41 +32,10 @@ use Rattle.diagram.specs.declared.Node.{Node}
 use Rattle.diagram.specs.Diagram.{Diagram, idCount}
 use Rattle.diagram.specs.Faults.{headFault, oneFault, nodeFault, outFault}
 use Rattle.jobs.specs.Reading.{nodeOf}
-use Rattle.jobs.specs.LineSteps.{
-  headFaultOf,
-  headAnswer,
-  headLine,
-  oneFaultOf,
-  oneAnswer,
-  oneLine,
-  nodeFaultOf,
-  nodeAnswer,
-  nodeLine,
-  outFaultOf,
-  outAnswer,
-  outLine,
-  endDue,
-  lastLine,
-}
+use Rattle.jobs.specs.LineSteps.{headFaultOf, headAnswer, headLine, oneFaultOf, oneAnswer, oneLine, nodeFaultOf, nodeAnswer, nodeLine, outFaultOf, outAnswer, outLine, endDue, lastLine}
 use Rattle.jobs.specs.LineSteps.{HeadRanges}
 use Rattle.jobs.proofs.Accepted.{node-label, one-label, head-ranges}
-use Rattle.jobs.proofs.LineLaws.{line-missing, line-stops, line-goes, due-inside}
-
--- a number that is given stops, whatever was to follow
-pub unless-some : {A : Type 0} (k n : ℕ) (rest : Outcome A) → (k ≡ 0 → ⊥) → unless k n rest ≡ refused k n
-unfolding unless
-unless-some zero n rest h = absurd (h refl)
-unless-some (suc k) n rest h = refl
-
--- a line's number k is its fault: where there is one the reading stops, and otherwise what is to follow follows
-pub stops :
-    {A : Type 0} (k fault n : ℕ) (whole other rest : Outcome A)
-    → k ≡ fault
-    → whole ≡ unless fault n other
-    → (k ≡ 0 → ⊥)
-    → whole ≡ unless k n rest
-stops k fault n whole other rest e w h =
-    w ∙ ap (λ (q : ℕ). unless q n other) (sym e) ∙ unless-some k n other h ∙ sym (unless-some k n rest h)
+use Rattle.jobs.proofs.LineLaws.{line-missing, line-stops, line-goes}
 
 -- a byte follows just where the position is before the last byte's end
 onto-follows : (b : ℕ) (ls : Lines) → follows (onto b ls) ≡ true

@@ -12,8 +12,8 @@ use diagram::table::TABLE;
 use forms::Form;
 ghost use mathlib.Core.Path.{_≡_};
 ghost use mathlib.Core.List.{[]};
-ghost use Prim.Native.Nat.{_≤_, _<_};
-ghost use Rattle.common.specs.Limits.{maxSwitches, maxNodes};
+ghost use Prim.Native.Nat.{_+_, _≤_};
+ghost use Rattle.common.specs.Limits.{maxSwitches, maxNodes, maxOutputs};
 ghost use Rattle.common.specs.Lists.{zeros};
 ghost use Rattle.diagram.specs.Seen.{Marked};
 ghost use Rattle.diagram.specs.Table.{entryIn, tabled, Terminals};
@@ -183,7 +183,7 @@ pub fn out_line(
 
 // The line `(end)`: grounds 1 and 10.
 pub fn end_line(text: &[u8], at: usize, line: u32) -> Refusal
-    requires { ⌜ line < 4294967295 ⌝ }
+    requires { ⌜ line ≤ 3 + maxNodes + maxOutputs ⌝ }
     ensures { λ r. ⌜ r ≡ lastLine (now (text .entry)) at line ⌝ }
 {
     let read = forms::end_line(text, at, line);

@@ -1,4 +1,6 @@
 -- `jobs::lines::end_line` meets its contract.
+use native.Mathlib.Omega.{arith}
+use Rattle.common.specs.Limits.{maxNodes, maxOutputs}
 use Rattle.forms.proofs.Cases.{not-end}
 use Rattle.jobs.proofs.Due.{end-none, end-stops, end-goes}
 use borrow.Author.Needs.{needs}
@@ -23,7 +25,8 @@ returns c =
     end-none _ _ _ _ (c .before .before .end-line .ensures) (not-end _ (c .before .match .keys2)) _ (c .refusal-of .ensures)
 
 add-t8 : tie.Need-add-t8
-add-t8 c = search needs
+unfolding maxNodes maxOutputs
+add-t8 c = omega arith
 
 returns-2 : tie.Need-returns-2
 returns-2 c =
