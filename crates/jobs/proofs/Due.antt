@@ -11,7 +11,7 @@ use lib.Seq.{drop-cons}
 use lib.Dec.{eqb, ltb}
 use borrow.Author.Tests.{ltb-true, eqb-true, not-false}
 use Rattle.common.specs.declared.Refusal.{Refusal}
-use Rattle.common.specs.Outcome.{_then_, done, refused, _then_, _when_, lowest, unless, numberOf, lineOf, refusalOf, valueOf}
+use Rattle.common.specs.Outcome.{done, refused, _then_, _when_, lowest, unless, numberOf, lineOf, refusalOf, valueOf}
 use Rattle.common.proofs.Lists.{and-left, and-right, by-test}
 use Rattle.common.proofs.Outcome.{not-met, others}
 use Rattle.figures.specs.Line.{Lines, left, _⏎_, linesOf, follows, lineEnd, onto}
