@@ -48,7 +48,7 @@ extern "C" {
 #define CROSSBAR_MAX_CELLS (CROSSBAR_MAX_ROWS * CROSSBAR_MAX_COLUMNS)
 #define CROSSBAR_MAX_WIRES (CROSSBAR_MAX_ROWS + CROSSBAR_MAX_COLUMNS)
 #define CROSSBAR_MAX_LISTING 393728
-#define CROSSBAR_STACK 32768
+#define CROSSBAR_STACK 24576
 
 /* The parts of an answer: the number of refusal, the value where it is 0, the line where it is not. */
 #define CROSSBAR_NUMBER(answer) ((unsigned)((uint64_t)(answer) >> 56))
