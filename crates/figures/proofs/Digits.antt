@@ -172,6 +172,19 @@ module _ {s : List ℕ} {at v i : ℕ} (r : Reading s at v i) where
     reading-several k e =
         read-at (other-first (digitsOf (drop at s)) (omega (arith, read-count)) (omega (arith, read-count)) (λ (z : getD (digitsOf (drop at s)) 0 0 ≡ 48). e (sym (read-first (omega arith)) ∙ z)))
 
+-- a zero in front of another digit, however many follow
+pub reading-zeros : (s : List ℕ) (at : ℕ) → getD s at 0 ≡ 48 → isDigit (getD s (at + 1) 0) ≡ true → figureAt s at ≡ Missing
+unfolding isDigit
+reading-zeros s at e h =
+    let d : isDigit (getD s at 0) ≡ true = rw e in
+    let ds = digits-next s at d ∙ ap (λ (l : List ℕ). getD s at 0 ∷ l) (digits-next s (at + 1) h) in
+    let k : 1 < length (digitsOf (drop at s)) = omega (arith, ap length ds) in
+    let f : getD (digitsOf (drop at s)) 0 0 ≡ 48 = ap (λ (l : List ℕ). getD l 0 0) ds ∙ e in
+    figure-not s at
+    (⊎-elim (λ (l : 5 < length (digitsOf (drop at s))). many-digits (digitsOf (drop at s)) l)
+    (λ (l : length (digitsOf (drop at s)) ≤ 5). zero-first (digitsOf (drop at s)) k l f)
+    (below-or-not 5 (length (digitsOf (drop at s)))))
+
 length-digits : (s : List ℕ) → length (digitsOf s) ≤ length s
 unfolding digitsOf
 length-digits [] = omega arith

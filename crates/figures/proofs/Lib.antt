@@ -5,3 +5,4 @@ pub mod Line
 pub mod Words
 pub mod Writing
 pub mod Steps
+pub mod Straight

@@ -1,5 +1,5 @@
 -- Words and figures read by position: the position past what stands there, or a position past every text.
-use Prim.Native.Nat.{ℕ, _+_}
+use Prim.Native.Nat.{ℕ, _+_, _-_}
 use mathlib.Core.Bool.{true, false, _&&_}
 use mathlib.Core.List.{List}
 use lib.ListN.{length}
@@ -7,6 +7,7 @@ use lib.Dec.{leb}
 use Rattle.figures.specs.declared.Figure.{Figure}
 use Rattle.figures.specs.declared.Figure.the-variants.{At, Missing}
 use Rattle.figures.specs.declared.Past.{Past}
+use Rattle.figures.specs.Figure.{isDigit}
 use Rattle.figures.specs.Position.{stands, figureAt}
 
 -- no text has so many bytes
@@ -21,6 +22,10 @@ wordPast w s at = elim (leb (at + length w) (length s) && stands w s at) [ true 
 unfoldable pub pastOf : Figure → Past
 pastOf Missing = record { value = 0; next = nowhere }
 pastOf (At v n) = record { value = v; next = n }
+
+-- the value of the digit that a byte writes, or 10 where it is no digit
+unfoldable pub digitValue : ℕ → ℕ
+digitValue b = elim (isDigit b) [ true ↦ b - 48 | false ↦ 10 ]
 
 unfoldable pub figurePast : List ℕ → ℕ → Past
 figurePast s at = pastOf (figureAt s at)

@@ -5,7 +5,7 @@ ghost use lib.ListN.{getD, length};
 ghost use Rattle.figures.specs.Figure.{isDigit, decimal};
 ghost use Rattle.figures.specs.Line.{lineEnd};
 ghost use Rattle.figures.specs.Position.{stands, figureAt, splice};
-ghost use Rattle.figures.specs.Past.{wordPast, figurePast};
+ghost use Rattle.figures.specs.Past.{wordPast, digitValue, figurePast};
 
 // Document 01, "Job text": a line is ended by a line feed.
 pub const LINE_FEED: u8 = 10;
@@ -127,8 +127,8 @@ pub struct Past {
     pub next: usize,
 }
 
-// The figure at `at`.
-pub fn figure_past(text: &[u8], at: usize) -> Past
+// The figure at `at`, whatever its length.
+fn any_figure_past(text: &[u8], at: usize) -> Past
     ensures { λ r. ⌜ r ≡ figurePast (now (text .entry)) at ⌝ }
 {
     let Figure::At { value, next } = read_figure(text, at) else {
@@ -138,6 +138,64 @@ pub fn figure_past(text: &[u8], at: usize) -> Past
         };
     };
     Past { value, next }
+}
+
+// The value of the digit at `i`, or 10 where none stands there.
+fn digit_value(text: &[u8], i: usize) -> u32
+    ensures { λ r. ⌜ r ≡ digitValue (getD (now (text .entry)) i 0) ⌝ }
+{
+    if text.len() <= i {
+        return 10;
+    }
+    let b = text[i];
+    if b < ZERO {
+        return 10;
+    }
+    if NINE < b {
+        return 10;
+    }
+    (b - ZERO) as u32
+}
+
+// The figure at `at`. Most figures have at most three digits: those are read without a loop.
+pub fn figure_past(text: &[u8], at: usize) -> Past
+    ensures { λ r. ⌜ r ≡ figurePast (now (text .entry)) at ⌝ }
+{
+    let a = digit_value(text, at);
+    if 9 < a {
+        return Past {
+            value: 0,
+            next: NOWHERE,
+        };
+    }
+    let b = digit_value(text, at + 1);
+    if 9 < b {
+        return Past {
+            value: a,
+            next: at + 1,
+        };
+    }
+    if a == 0 {
+        return Past {
+            value: 0,
+            next: NOWHERE,
+        };
+    }
+    let c = digit_value(text, at + 2);
+    if 9 < c {
+        return Past {
+            value: a * 10 + b,
+            next: at + 2,
+        };
+    }
+    let d = digit_value(text, at + 3);
+    if 9 < d {
+        return Past {
+            value: (a * 10 + b) * 10 + c,
+            next: at + 3,
+        };
+    }
+    any_figure_past(text, at)
 }
 
 // How many digits the figure of a number has. Above 99999 `decimal` is the last five digits.
