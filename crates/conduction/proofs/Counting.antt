@@ -15,7 +15,7 @@ use Rattle.common.specs.Lists.{same}
 use Rattle.common.proofs.Lists.{same-eq, at-or-below, below-or-not, equal-or-not, not-zero, length-tab, getD-tab}
 use Rattle.conduction.specs.Round.{atRest}
 use Rattle.conduction.specs.First.{stamped, startStamps, stampsAfter, Rounded, Rest, Counted}
-use Rattle.conduction.specs.Wires.{unit, placeOf, wireOf, inOrder, passing, Sided, Fronted, Ready, Standing, Fits, Turned}
+use Rattle.conduction.specs.Wires.{unit, placeOf, wireOf, inOrder, passing, Sided, Fronted, TurnReady, Standing, Fits, Turned}
 use Rattle.conduction.proofs.Stamps.{start-stamp, start-one, rest-by-stamps}
 use Rattle.conduction.proofs.Turns.{place-wire}
 use Rattle.conduction.proofs.Crossing.{row-small, column-small}

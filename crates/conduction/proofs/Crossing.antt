@@ -25,10 +25,10 @@ use Rattle.conduction.specs.Wires.{
   joinedTo,
   CodeTable,
   Spreadable,
-  Placed,
+  InPlaces,
   Sorted,
-  Marked,
-  Ready,
+  NewlyStamped,
+  TurnReady,
   Standing,
   Fits,
   Turned,
@@ -143,7 +143,7 @@ module _
     pub turn-across :
         (columns′ : List ℕ) → t % 2 ≡ 0 → length columns′ ≡ length columns
         → Sorted (joinedTo on cells rows head tail) dark columns columns′ end (length columns)
-        → Marked columns′ dark end (t + 2) stamps stamps′
+        → NewlyStamped columns′ dark end (t + 2) stamps stamps′
         → Turned on cells rows columns stamps rows columns′ stamps′ t tail dark end
     turn-across columns′ parity long sorted marked =
         let m = length rows in
@@ -173,7 +173,7 @@ module _
     pub turn-back :
         (rows′ : List ℕ) → (t % 2 ≡ 0 → ⊥) → length rows′ ≡ length rows
         → Sorted (joinedTo on cells columns head tail) dark rows rows′ end (length rows)
-        → Marked rows′ dark end (t + 2) stamps stamps′
+        → NewlyStamped rows′ dark end (t + 2) stamps stamps′
         → Turned on cells rows columns stamps rows′ columns stamps′ t tail dark end
     turn-back rows′ parity long sorted marked =
         let m = length rows in
@@ -211,7 +211,7 @@ module _
     (from to stamps : List ℕ)
     (last head tail dark : ℕ)
     (sides : Sides m n joined on cells first step (length from) first′ step′ (length to))
-    (ready : Ready first step first′ step′ from to stamps last head tail dark)
+    (ready : TurnReady first step first′ step′ from to stamps last head tail dark)
   where
     spreadable :
         CodeTable on → ((x y : ℕ) → x < length from → y < length to → x * step + y * step′ < length cells)
@@ -233,7 +233,7 @@ module _
 
     placed :
         (f : ℕ → Bool) (to′ : List ℕ) (end : ℕ) → length to′ ≡ length to → Sorted f dark to to′ end (length to) → first′ + length to ≤ length stamps
-        → (dark ≤ end) × (end ≤ length to′) × Placed to′ stamps
+        → (dark ≤ end) × (end ≤ length to′) × InPlaces to′ stamps
     placed f to′ end long sorted fit = (
       sorted .from,
       omega (arith, sorted .upto),
@@ -263,13 +263,13 @@ module _ (on cells rows columns stamps : List ℕ) (t head tail dark : ℕ) (fit
 
   pub mark-across :
       t % 2 ≡ 0 → (f : ℕ → Bool) (columns′ : List ℕ) (end : ℕ) → length columns′ ≡ length columns
-      → Sorted f dark columns columns′ end (length columns) → (dark ≤ end) × (end ≤ length columns′) × Placed columns′ stamps
+      → Sorted f dark columns columns′ end (length columns) → (dark ≤ end) × (end ≤ length columns′) × InPlaces columns′ stamps
   mark-across parity f columns′ end long sorted =
       placed _ _ _ _ _ _ _ _ _ _ _ _ _ _ _ _ rows-there (standing .even parity) f columns′ end long sorted (fits .wires-fit)
 
   pub mark-back :
       (t % 2 ≡ 0 → ⊥) → (f : ℕ → Bool) (rows′ : List ℕ) (end : ℕ) → length rows′ ≡ length rows
-      → Sorted f dark rows rows′ end (length rows) → (dark ≤ end) × (end ≤ length rows′) × Placed rows′ stamps
+      → Sorted f dark rows rows′ end (length rows) → (dark ≤ end) × (end ≤ length rows′) × InPlaces rows′ stamps
   mark-back parity f rows′ end long sorted =
       placed _ _ _ _ _ _ _ _ _ _ _ _ _ _ _ _ columns-there (standing .odd parity) f rows′ end long sorted (omega (arith, fits .wires-fit))
 

@@ -14,7 +14,7 @@ use borrow.Author.Tests.{le-leb, leb-true, eqb-true, eq-eqb, ne-eqb}
 use Rattle.common.specs.Limits.{maxRows, maxColumns}
 use Rattle.common.specs.Lists.{some-below}
 use Rattle.common.proofs.Lists.{by-test, below-or-not, equal-or-not, and-left, some-below-is}
-use Rattle.conduction.specs.Wires.{unit, placeOf, addsOf, wireOf, passes, codeAt, fourOff, joinedTo, CodeTable, Sorted, among, Marked}
+use Rattle.conduction.specs.Wires.{unit, placeOf, addsOf, wireOf, passes, codeMet, fourOff, joinedTo, CodeTable, Sorted, among, NewlyStamped}
 use Rattle.conduction.proofs.Sorting.{sorted-none, sorted-both, sorted-as}
 
 -- of the numbers from head on, none is below head
@@ -56,8 +56,8 @@ module _ (on cells from : List ℕ) (head : ℕ) where
       (sorted-both (joinedTo on cells from head i) (λ w. passes on cells (adds + addsOf w)) first l l′ l″ lit lit′ long a (rw long at b))
 
 -- a wire that meets another in a cell that is off is not joined to it
-off-not : (on cells : List ℕ) (adds w : ℕ) → CodeTable on → codeAt cells adds w ≡ 0 → passes on cells (adds + addsOf w) ≡ false
-unfolding codeAt passes
+off-not : (on cells : List ℕ) (adds w : ℕ) → CodeTable on → codeMet cells adds w ≡ 0 → passes on cells (adds + addsOf w) ≡ false
+unfolding codeMet passes
 off-not on cells adds w table z = rw (z, table .off)
 
 -- where four cells are off, none of the four wires is joined
@@ -66,7 +66,7 @@ pub four-not :
     → (k : ℕ) → at ≤ k → k < at + 4 → passes on cells (adds + addsOf (getD wires k 0)) ≡ false
 unfolding fourOff
 four-not on cells wires adds at table e k p q =
-    let code : ℕ → ℕ = λ j. codeAt cells adds (getD wires j 0) in
+    let code : ℕ → ℕ = λ j. codeMet cells adds (getD wires j 0) in
     let sum = eqb-true (code at + code (at + 1) + (code (at + 2) + code (at + 3))) 0 e in
     ⊎-elim
     (λ (h : k < at + 1). let is : k ≡ at = omega arith in rw is (off-not on cells adds (getD wires at 0) table (omega arith)))
@@ -83,14 +83,14 @@ four-not on cells wires adds at table e k p q =
 
 -- one wire more with a new stamp
 module _ (wires : List ℕ) (from new : ℕ) where
-  pub marked-none : (stamps : List ℕ) → Marked wires from from new stamps stamps
+  pub marked-none : (stamps : List ℕ) → NewlyStamped wires from from new stamps stamps
   unfolding among
   marked-none stamps =
       record { stamps = λ v. sym (rw (none-from from (λ k. eqb (placeOf (getD wires k 0)) v))) }
 
   pub marked-more :
       (i place : ℕ) (before after : List ℕ) → from ≤ i → place ≡ placeOf (getD wires i 0) → place < length after
-      → Marked wires from i new before after → Marked wires from (i + 1) new before (set after place new)
+      → NewlyStamped wires from i new before after → NewlyStamped wires from (i + 1) new before (set after place new)
   unfolding among
   marked-more i place before after h e within m =
       record {

@@ -22,7 +22,7 @@ use Rattle.conduction.specs.declared.Lighted.{Lighted}
 use Rattle.conduction.specs.Round.{rounds, roundCount, atRest}
 use Rattle.conduction.specs.First.{stampsAfter, withStamp, Rest, Counted, Shown}
 use Rattle.conduction.specs.Light.{Lit, joined, litBy, light, lighted}
-use Rattle.conduction.specs.Wires.{codes, passes, passing, onCodes, CodeTable, Lightable}
+use Rattle.conduction.specs.Wires.{codes, passes, passing, onCodes, CodeTable, LampReady}
 use Rattle.conduction.proofs.Rounds.{length-rounds, rounds-same, rests-same}
 use Rattle.conduction.proofs.Count.{count-only}
 use Rattle.conduction.proofs.Light.{sound-row, light-accepts}
@@ -63,7 +63,7 @@ shown-as m n j j′ t before after agree shown =
 
 -- the table of codes says which cells conduct
 pub table-says :
-    (cells setting wires : List ℕ) (m n : ℕ) → Lightable cells setting m n wires
+    (cells setting wires : List ℕ) (m n : ℕ) → LampReady cells setting m n wires
     → (r c : ℕ) → r < m → c < n → passing (onCodes setting) cells n r c ≡ joins cells n setting r c
 unfolding passing passes onCodes joins maxSwitches codes
 table-says cells setting wires m n l r c h k =
@@ -97,7 +97,7 @@ module _
     (cells setting wires : List ℕ)
     (m n k t : ℕ)
     (on rows columns stamps after : List ℕ)
-    (l : Lightable cells setting m n wires)
+    (l : LampReady cells setting m n wires)
     (is-on : on ≡ onCodes setting)
     (long-rows : length rows ≡ m)
     (long-columns : length columns ≡ n)

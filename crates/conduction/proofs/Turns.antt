@@ -12,7 +12,7 @@ use borrow.Author.Tests.{le-leb, leb-true, eqb-true, eq-eqb}
 use Rattle.common.specs.Lists.{some-below}
 use Rattle.common.proofs.Lists.{and-left, and-right, and-both, both-ways, by-test, true-or-false, below-or-not, some-below-at, some-below-is}
 use Rattle.conduction.specs.First.{meets, stamp, reached}
-use Rattle.conduction.specs.Wires.{unit, placeOf, addsOf, wireOf, passes, joinedTo, Sorted, among, Marked, Sided, Fronted, Ready}
+use Rattle.conduction.specs.Wires.{unit, placeOf, addsOf, wireOf, passes, joinedTo, Sorted, among, NewlyStamped, Sided, Fronted, TurnReady}
 use Rattle.conduction.proofs.Stamps.{stamp-kept, stamp-new, stamp-out, stamp-cases, reached-by, reached-is}
 use Rattle.conduction.proofs.Sorting.{exchanged-all}
 
@@ -56,11 +56,11 @@ module _
     (from to to′ stamps stamps′ : List ℕ)
     (t head tail dark end : ℕ)
     (sides : Sides m n joined on cells first step (length from) first′ step′ (length to))
-    (ready : Ready first step first′ step′ from to stamps (t + 1) head tail dark)
+    (ready : TurnReady first step first′ step′ from to stamps (t + 1) head tail dark)
     (most : (v : ℕ) → getD stamps v 0 ≤ t + 1)
     (long : length to′ ≡ length to)
     (sorted : Sorted (joinedTo on cells from head tail) dark to to′ end (length to))
-    (marked : Marked to′ dark end (t + 2) stamps stamps′)
+    (marked : NewlyStamped to′ dark end (t + 2) stamps stamps′)
   where
     -- a wire is reached just where it is joined to a wire of the front
     reached-joined : (y : ℕ) → y < length to → reached m n joined t stamps (first′ + y) ≡ joinedTo on cells from head tail (wireOf first′ step′ y)
@@ -297,7 +297,7 @@ module _
           all = λ x h e. ready .lit .all x h (sym (from-same x h) ∙ e);
         }
 
-    pub turned-ready : Ready first′ step′ first step to′ from stamps′ (t + 2) dark end tail
+    pub turned-ready : TurnReady first′ step′ first step to′ from stamps′ (t + 2) dark end tail
     turned-ready =
         record {
           front = turned-front;

@@ -46,15 +46,15 @@ pub record CodeTable (on : List ℕ) : Type 0 where
   pub off : getD on 0 0 ≡ 0
 
 -- the code of the cell where a wire meets another, and whether four of them are off
-unfoldable pub codeAt : (cells : List ℕ) (adds w : ℕ) → ℕ
-codeAt cells adds w = getD cells (adds + addsOf w) 0
+unfoldable pub codeMet : (cells : List ℕ) (adds w : ℕ) → ℕ
+codeMet cells adds w = getD cells (adds + addsOf w) 0
 
 unfoldable pub fourOff : (cells : List ℕ) (adds : ℕ) (wires : List ℕ) (at : ℕ) → Bool
 fourOff cells adds wires at =
     eqb
-    (codeAt cells adds (getD wires at 0)
-    + codeAt cells adds (getD wires (at + 1) 0)
-    + (codeAt cells adds (getD wires (at + 2) 0) + codeAt cells adds (getD wires (at + 3) 0)))
+    (codeMet cells adds (getD wires at 0)
+    + codeMet cells adds (getD wires (at + 1) 0)
+    + (codeMet cells adds (getD wires (at + 2) 0) + codeMet cells adds (getD wires (at + 3) 0)))
     0
 
 -- whether one of the wires from head up to tail meets a wire in a cell that conducts
@@ -98,14 +98,14 @@ pub record Sorted (f : ℕ → Bool) (first : ℕ) (before after : List ℕ) (li
   pub rest : (k : ℕ) → past ≤ k → getD after k 0 ≡ getD before k 0
 
 -- each wire of a list has its place among the stamps
-abbrev pub Placed : (wires stamps : List ℕ) → Type 0
-Placed wires stamps = (k : ℕ) → k < length wires → placeOf (getD wires k 0) < length stamps
+abbrev pub InPlaces : (wires stamps : List ℕ) → Type 0
+InPlaces wires stamps = (k : ℕ) → k < length wires → placeOf (getD wires k 0) < length stamps
 
 -- the stamps after the wires of a list from `from` up to `to` got a new one
 unfoldable pub among : (wires : List ℕ) (from to place : ℕ) → Bool
 among wires from to v = some-below to (λ k. leb from k && eqb (placeOf (getD wires k 0)) v)
 
-pub record Marked (wires : List ℕ) (from to new : ℕ) (before after : List ℕ) : Type 0 where
+pub record NewlyStamped (wires : List ℕ) (from to new : ℕ) (before after : List ℕ) : Type 0 where
   pub stamps : (v : ℕ) → getD after v 0 ≡ elim (among wires from to v) [ true ↦ new | false ↦ getD before v 0 ]
 
 -- the wires of one side: each entry is one of them, those from `dark` on are dark, and all that are dark stand there
@@ -127,7 +127,7 @@ pub record Fronted (first step : ℕ) (wires stamps : List ℕ) (last head tail 
       → (k : ℕ) × (head ≤ k) × (k < tail) × (getD wires k 0 ≡ wireOf first step x)
 
 -- before a round from one side to the other: only wires of the first side have the last stamp
-pub record Ready (first step first′ step′ : ℕ) (from to stamps : List ℕ) (last head tail dark : ℕ) : Type 0 where
+pub record TurnReady (first step first′ step′ : ℕ) (from to stamps : List ℕ) (last head tail dark : ℕ) : Type 0 where
   pub front : Fronted first step from stamps last head tail
   pub lit : Sided first step from stamps tail
   pub others : Sided first′ step′ to stamps dark
@@ -136,8 +136,8 @@ pub record Ready (first step first′ step′ : ℕ) (from to stamps : List ℕ)
 -- before round t + 1: light passes from rows to columns where t is even, and back where it is odd
 pub record Standing (rows columns stamps : List ℕ) (t head tail dark : ℕ) : Type 0 where
   pub most : (v : ℕ) → getD stamps v 0 ≤ t + 1
-  pub even : t % 2 ≡ 0 → Ready 0 (length columns) (length rows) 1 rows columns stamps (t + 1) head tail dark
-  pub odd : (t % 2 ≡ 0 → ⊥) → Ready (length rows) 1 0 (length columns) columns rows stamps (t + 1) head tail dark
+  pub even : t % 2 ≡ 0 → TurnReady 0 (length columns) (length rows) 1 rows columns stamps (t + 1) head tail dark
+  pub odd : (t % 2 ≡ 0 → ⊥) → TurnReady (length rows) 1 0 (length columns) columns rows stamps (t + 1) head tail dark
 
 -- the lists are long enough, and not longer than the limits
 pub record Fits (on cells rows columns stamps : List ℕ) : Type 0 where
@@ -162,7 +162,7 @@ unfoldable pub onCodes : List ℕ → List ℕ
 onCodes setting = padded codes (tab (2 + 2 * length setting) (λ k. bit (conducts setting (cellOf k))))
 
 -- what light has checked before the rounds: the sizes, the cells' codes, the setting, and the room for the wires
-pub record Lightable (cells setting : List ℕ) (m n : ℕ) (wires : List ℕ) : Type 0 where
+pub record LampReady (cells setting : List ℕ) (m n : ℕ) (wires : List ℕ) : Type 0 where
   pub row-0 : 0 < m
   pub rows-fit : m ≤ maxRows
   pub columns-fit : n ≤ maxColumns

@@ -22,7 +22,7 @@ ghost use Rattle.cells.specs.Conducts.{joins};
 ghost use Rattle.cells.specs.Setting.{isSetting};
 ghost use Rattle.conduction.specs.First.{withStamp, Shown};
 ghost use Rattle.conduction.specs.Light.{light, lighted};
-ghost use Rattle.conduction.specs.Wires.{onCodes, Lightable};
+ghost use Rattle.conduction.specs.Wires.{onCodes, LampReady};
 
 // A truth value as a byte.
 fn byte_of(holds: bool) -> u8
@@ -61,7 +61,7 @@ fn conducting(setting: &[u8]) -> [u8; CODES]
 // The rounds of m rows and n columns, and their lit wires, without light's checks. The answer is the count of rounds, or m + n where no
 // number of rounds below it is at rest; then nothing is written.
 fn light_wires(cells: &[u8], setting: &[u8], m: usize, n: usize, wires: &mut [u8]) -> u16
-    requires { ⌜ Lightable (now cells) (now setting) m n (now wires) ⌝ }
+    requires { ⌜ LampReady (now cells) (now setting) m n (now wires) ⌝ }
     ensures { λ t. ⌜ Shown m n (joins (now (cells .entry)) n (now (setting .entry))) t (now (wires .entry)) (now (wires .exit)) ⌝ }
 {
     let on = conducting(setting);

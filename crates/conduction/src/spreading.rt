@@ -7,7 +7,7 @@ ghost use mathlib.Core.Bool.{false};
 ghost use Prim.Native.Nat.{ℕ, _+_, _*_, _≤_, _<_};
 ghost use lib.ListN.{length, getD};
 ghost use Rattle.common.specs.Limits.{maxRows, maxColumns};
-ghost use Rattle.conduction.specs.Wires.{codes, placeOf, addsOf, inOrder, passes, codeAt, fourOff, joinedTo, CodeTable, Meeting, Sortable, Spreadable, Placed, Sorted, Marked};
+ghost use Rattle.conduction.specs.Wires.{codes, placeOf, addsOf, inOrder, passes, codeMet, fourOff, joinedTo, CodeTable, Meeting, Sortable, Spreadable, InPlaces, Sorted, NewlyStamped};
 
 // The codes that a byte can hold.
 pub const CODES: usize = 256;
@@ -75,7 +75,7 @@ fn sort(cells: &[u8], on: &[u8], adds: usize, wires: &mut [u32], span: Span) -> 
 // The code of the cell where a wire meets another.
 fn code_at(cells: &[u8], adds: usize, wire: u32) -> u32
     requires { ⌜ adds + addsOf wire < length (now cells) ⌝ }
-    ensures { λ r. ⌜ (r ≡ codeAt (now (cells .entry)) adds wire) × (r < codes) ⌝ }
+    ensures { λ r. ⌜ (r ≡ codeMet (now (cells .entry)) adds wire) × (r < codes) ⌝ }
 {
     cells[adds + adds_of(wire)] as u32
 }
@@ -136,8 +136,8 @@ pub fn spread(cells: &[u8], on: &[u8], from: &[u32], wires: &mut [u32], front: F
 
 // Gives the wires of a list, from a place up to another, a new stamp.
 pub fn mark(stamps: &mut [u16], wires: &[u32], from: usize, to: usize, new: u16)
-    requires { ⌜ (from ≤ to) × (to ≤ length (now wires)) × Placed (now wires) (now stamps) ⌝ }
-    ensures { λ r. ⌜ Marked (now (wires .entry)) from to new (now (stamps .entry)) (now (stamps .exit)) ⌝ }
+    requires { ⌜ (from ≤ to) × (to ≤ length (now wires)) × InPlaces (now wires) (now stamps) ⌝ }
+    ensures { λ r. ⌜ NewlyStamped (now (wires .entry)) from to new (now (stamps .entry)) (now (stamps .exit)) ⌝ }
 {
     let mut i = from;
     while i < to {

@@ -20,7 +20,7 @@ use Rattle.forms.specs.Template.{Template, Item, word, figure, values}
 use Rattle.forms.specs.Due.{Taken, due}
 use Rattle.forms.specs.Forms.{onForm, yesForm, noForm}
 use Rattle.forms.specs.Form.{Placed, placed, switchOf}
-use Rattle.forms.specs.Read.{cappedCell, cellForm, placedIn, cellOf, cellRead, readTo}
+use Rattle.forms.specs.Read.{cappedCell, cellForm, placedIn, cellReadOf, cellRead, readTo}
 use Rattle.forms.proofs.Template.{apart, on-apart, yes-apart, no-apart, due-line}
 use Rattle.forms.proofs.Steps.{Stepped, steps, steps-due, steps-refused, Run, then-word, then-figure, run-steps}
 
@@ -57,7 +57,7 @@ module _ (s : List ℕ) (at n : ℕ) (short : length s < nowhere) where
 
   module _ {r c m : ℕ} (run : Run s onForm at (r ∷ c ∷ []) m) where
     pub cell-on : (m ≡ nowhere → ⊥) → readTo (cellForm r c On) m n ≡ cellRead s at n
-    unfolding readTo cellRead cellOf placedIn placed cappedCell
+    unfolding readTo cellRead cellReadOf placedIn placed cappedCell
     cell-on h =
         let e = run-steps run in
         let f = first onForm on-apart (λ z. h (sym (ap (λ x. x .next) e) ∙ z)) in
@@ -68,7 +68,7 @@ module _ (s : List ℕ) (at n : ℕ) (short : length s < nowhere) where
       not-on = other onForm on-apart (ap (λ x. x .next) (run-steps run) ∙ on)
 
       pub cell-yes : (k ≡ nowhere → ⊥) → readTo (cellForm r c (Yes (switchOf x))) k n ≡ cellRead s at n
-      unfolding readTo cellRead cellOf placedIn placed cappedCell
+      unfolding readTo cellRead cellReadOf placedIn placed cappedCell
       cell-yes h =
           let e = run-steps run-yes in
           let f = first yesForm yes-apart (λ z. h (sym (ap (λ x. x .next) e) ∙ z)) in
@@ -84,7 +84,7 @@ module _ (s : List ℕ) (at n : ℕ) (short : length s < nowhere) where
         no-cell h (l ⏎ later) e = rw (e, not-on l later e, not-yes l later e, other noForm no-apart h l later e, placed)
 
         pub cell-no : readTo (cellForm r c (No (switchOf y))) j n ≡ cellRead s at n
-        unfolding readTo cellRead cellOf placedIn placed cappedCell
+        unfolding readTo cellRead cellReadOf placedIn placed cappedCell
         cell-no =
             let e = run-steps run-no in
             ⊎-elim

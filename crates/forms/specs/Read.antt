@@ -43,13 +43,13 @@ unfoldable pub placedIn : Lines → Option Placed
 placedIn (left s) = none
 placedIn (l ⏎ ls) = placed l
 
-unfoldable pub cellOf : ℕ → ℕ → Option Placed → LineRead
-cellOf next n none = record { form = notDue n; next = 0 }
-cellOf next n (some p) = record { form = cellForm (p .row) (p .column) (cappedCell (p .cell)); next = next }
+unfoldable pub cellReadOf : ℕ → ℕ → Option Placed → LineRead
+cellReadOf next n none = record { form = notDue n; next = 0 }
+cellReadOf next n (some p) = record { form = cellForm (p .row) (p .column) (cappedCell (p .cell)); next = next }
 
 -- the line that starts at a position, number n of the text, read as a cell line
 unfoldable pub cellRead : List ℕ → ℕ → ℕ → LineRead
-cellRead s at n = cellOf (lineEnd s at + 1) n (placedIn (linesOf (drop at s)))
+cellRead s at n = cellReadOf (lineEnd s at + 1) n (placedIn (linesOf (drop at s)))
 
 -- the refusal of a form that is one; 0 and 0 for the others
 unfoldable pub refusalIn : Form → Refusal

@@ -16,7 +16,7 @@ use Rattle.jobs.specs.declared.JobRead.{JobRead}
 use Rattle.jobs.specs.Answer.{noJob, jobOf, jobRead}
 use Rattle.jobs.specs.Job.{accepted, table}
 use Rattle.diagram.specs.Table.{entryIn, withEntry, opened, tabled, Terminals}
-use Rattle.jobs.specs.Spread.{numbersOf, flat, spread, begun}
+use Rattle.jobs.specs.Spread.{entryNumbers, flat, spread, begun}
 use Rattle.jobs.proofs.Accepted.{accepted-job}
 use Rattle.jobs.proofs.Refusals.{accepted-done}
 
@@ -33,13 +33,13 @@ unfolding begun
 begun-refused r h = not-zero (r .refusal .number) _ _ h
 
 -- ---- four numbers an entry
-numbers-append : (a b : List Node) → numbersOf (a ++ b) ≡ numbersOf a ++ numbersOf b
-unfolding numbersOf
+numbers-append : (a b : List Node) → entryNumbers (a ++ b) ≡ entryNumbers a ++ entryNumbers b
+unfolding entryNumbers
 numbers-append [] b = refl
 numbers-append (n ∷ a) b = rw (numbers-append a b)
 
-pub length-numbers : (a : List Node) → length (numbersOf a) ≡ 4 * length a
-unfolding numbersOf
+pub length-numbers : (a : List Node) → length (entryNumbers a) ≡ 4 * length a
+unfolding entryNumbers
 length-numbers [] = refl
 length-numbers (n ∷ a) = let e = length-numbers a in omega arith
 
@@ -55,15 +55,15 @@ four-at (y ∷ p) z a b c d =
 put-next :
     (a : List Node) (z : List ℕ) (i : ℕ) (e : Node)
     → i ≡ length a
-    → withEntry (numbersOf a ++ (0 ∷ 0 ∷ 0 ∷ 0 ∷ z)) i e ≡ numbersOf (a ++ (e ∷ [])) ++ z
-unfolding withEntry numbersOf
+    → withEntry (entryNumbers a ++ (0 ∷ 0 ∷ 0 ∷ 0 ∷ z)) i e ≡ entryNumbers (a ++ (e ∷ [])) ++ z
+unfolding withEntry entryNumbers
 put-next a z i e same =
-    let l : 4 * i ≡ length (numbersOf a) = rw same (sym (length-numbers a)) in
-    rw (l, numbers-append a (e ∷ []), append-assoc (numbersOf a) (e .x ∷ e .l ∷ e .h ∷ e .t ∷ []) z)
-    (four-at (numbersOf a) z (e .x) (e .l) (e .h) (e .t))
+    let l : 4 * i ≡ length (entryNumbers a) = rw same (sym (length-numbers a)) in
+    rw (l, numbers-append a (e ∷ []), append-assoc (entryNumbers a) (e .x ∷ e .l ∷ e .h ∷ e .t ∷ []) z)
+    (four-at (entryNumbers a) z (e .x) (e .l) (e .h) (e .t))
 
-put-first : (z : List ℕ) (e : Node) → withEntry (0 ∷ 0 ∷ 0 ∷ 0 ∷ z) 0 e ≡ numbersOf (e ∷ []) ++ z
-unfolding numbersOf
+put-first : (z : List ℕ) (e : Node) → withEntry (0 ∷ 0 ∷ 0 ∷ 0 ∷ z) 0 e ≡ entryNumbers (e ∷ []) ++ z
+unfolding entryNumbers
 put-first z e = put-next [] z 0 e refl
 
 four-zeros : (k m : ℕ) → k ≡ suc (suc (suc (suc m))) → zeros k ≡ 0 ∷ 0 ∷ 0 ∷ 0 ∷ zeros m
@@ -73,7 +73,7 @@ module _ (v one : ℕ) (ns : List Node) where
   abbrev ends : List Node
   ends = terminal v 0 0 ∷ terminal v 1 one ∷ []
 
-  opened-numbers : opened (zeros (4 * maxIds)) v one ≡ numbersOf ends ++ zeros (4 * (maxIds - 2))
+  opened-numbers : opened (zeros (4 * maxIds)) v one ≡ entryNumbers ends ++ zeros (4 * (maxIds - 2))
   unfolding opened maxIds
   opened-numbers =
       let m = 4 * (maxIds - 1) in
@@ -85,7 +85,7 @@ module _ (v one : ℕ) (ns : List Node) where
   -- after k entries
   spread-numbers :
       (k : ℕ) → k ≤ length ns → k + 2 ≤ maxIds
-      → spread (opened (zeros (4 * maxIds)) v one) ns k ≡ numbersOf (ends ++ take k ns) ++ zeros (4 * (maxIds - (k + 2)))
+      → spread (opened (zeros (4 * maxIds)) v one) ns k ≡ entryNumbers (ends ++ take k ns) ++ zeros (4 * (maxIds - (k + 2)))
   unfolding spread
   spread-numbers zero few fit = opened-numbers
   spread-numbers (suc k) few fit =
@@ -115,7 +115,7 @@ spread-done d few =
     let count : n ≤ length ns = simp (length-append, length-replicate) (omega arith) in
     let all : take n ns ≡ d .nodes = take-at (d .nodes) (replicate (maxNodes - n) no-node) n refl in
     let long = length-numbers (entries d) in
-    let rest : 4 * (maxNodes + 2) - length (numbersOf (entries d)) ≡ 4 * (maxNodes + 2 - (n + 2)) = omega (arith, long) in
+    let rest : 4 * (maxNodes + 2) - length (entryNumbers (entries d)) ≡ 4 * (maxNodes + 2 - (n + 2)) = omega (arith, long) in
     rw (begun-done (jobRead (done d)) refl, spread-numbers (d .switches) (d .one) ns n count (omega arith), all, rest)
 
 -- a refusal has a number
@@ -147,12 +147,12 @@ spread-answered s r ns t e f g = record { answer = e; buffer = rw (g, f, e) (ans
 past-four : (a b c d : ℕ) (l : List ℕ) (m k : ℕ) → m ≡ suc (suc (suc (suc k))) → getD (a ∷ b ∷ c ∷ d ∷ l) m 0 ≡ getD l k 0
 past-four a b c d l m k e = rw e
 
-entry-numbers : (a : List Node) (z : List ℕ) (i : ℕ) → i < length a → entryIn (numbersOf a ++ z) i ≡ getD a i no-node
-unfolding numbersOf entryIn
+entry-numbers : (a : List Node) (z : List ℕ) (i : ℕ) → i < length a → entryIn (entryNumbers a ++ z) i ≡ getD a i no-node
+unfolding entryNumbers entryIn
 entry-numbers [] z i below = absurd (omega arith)
 entry-numbers (n ∷ a) z zero below = refl
 entry-numbers (n ∷ a) z (suc i) below =
-    let l = numbersOf a ++ z in
+    let l = entryNumbers a ++ z in
     let x = past-four (n .x) (n .l) (n .h) (n .t) l (4 * suc i) (4 * i) (omega arith) in
     let y = past-four (n .x) (n .l) (n .h) (n .t) l (4 * suc i + 1) (4 * i + 1) (omega arith) in
     let h = past-four (n .x) (n .l) (n .h) (n .t) l (4 * suc i + 2) (4 * i + 2) (omega arith) in
@@ -163,7 +163,7 @@ past-two : (a b : Node) (l : List Node) (m k : ℕ) → m ≡ suc (suc k) → ge
 past-two a b l m k e = rw e
 
 module _ (s : List ℕ) (d : Diagram) (r : JobRead) (t : List ℕ) (read : Answered (accepted s) jobRead flat (4 * maxIds) r t) (is : accepted s ≡ done d) where
-  flat-is : t ≡ padded (4 * maxIds) (numbersOf (entries d))
+  flat-is : t ≡ padded (4 * maxIds) (entryNumbers (entries d))
   unfolding bufferOf flat
   flat-is = read .buffer ∙ ap (bufferOf (4 * maxIds) flat) is
 

@@ -10,13 +10,13 @@ use Rattle.jobs.specs.declared.JobRead.{JobRead}
 use Rattle.diagram.specs.Table.{withEntry, opened}
 
 -- four numbers an entry, X, L, H and T
-unfoldable pub numbersOf : List Node → List ℕ
-numbersOf [] = []
-numbersOf (n ∷ ns) = n .x ∷ n .l ∷ n .h ∷ n .t ∷ numbersOf ns
+unfoldable pub entryNumbers : List Node → List ℕ
+entryNumbers [] = []
+entryNumbers (n ∷ ns) = n .x ∷ n .l ∷ n .h ∷ n .t ∷ entryNumbers ns
 
 -- the flat table of a diagram: every id's entry, the terminals' first
 unfoldable pub flat : Diagram → List ℕ
-flat d = numbersOf (entries d)
+flat d = entryNumbers (entries d)
 
 -- a flat table into which the first n nodes' entries are put
 unfoldable pub spread : List ℕ → List Node → ℕ → List ℕ

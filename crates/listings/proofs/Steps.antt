@@ -24,7 +24,7 @@ use Rattle.forms.specs.declared.LineRead.{LineRead}
 use Rattle.forms.specs.declared.Form.the-variants as form
 use Rattle.forms.specs.Form.{Placed, placed, switchOf, notDue, endFrom}
 use Rattle.forms.specs.Forms.{endForm}
-use Rattle.forms.specs.Read.{cappedCell, placedIn, cellOf, cellRead, lineRead, refusalIn}
+use Rattle.forms.specs.Read.{cappedCell, placedIn, cellReadOf, cellRead, lineRead, refusalIn}
 use Rattle.forms.specs.Due.{due}
 use Rattle.forms.proofs.Sorts.{capped, asEnd, asCell}
 use Rattle.forms.proofs.LineReads.{ended, after-end, end-kind, read-due, read-refused}
@@ -88,7 +88,7 @@ missing-out (suc k) x n s h = refl
 
 -- a line read as a cell line
 module _ (x : Listed) (s : List ℕ) (at n : ℕ) (r : LineRead) (e : r ≡ cellRead s at n) where
-  line-form : (ls : Lines) (o : Option Placed) → linesOf (drop at s) ≡ ls → placedIn ls ≡ o → r ≡ cellOf (lineEnd s at + 1) n o
+  line-form : (ls : Lines) (o : Option Placed) → linesOf (drop at s) ≡ ls → placedIn ls ≡ o → r ≡ cellReadOf (lineEnd s at + 1) n o
   unfolding cellRead
   line-form ls o d p = e ∙ rw (d, p)
 
@@ -99,7 +99,7 @@ module _ (x : Listed) (s : List ℕ) (at n : ℕ) (r : LineRead) (e : r ≡ cell
         → linesOf (drop at s) ≡ l ⏎ ls
         → placed l ≡ o
         → (loadCells x n (l ⏎ ls) ≡ unless (cellFault x (placedBy f)) n (loadCells (withCell x (placedBy f)) (n + 1) ls)) × (r .next ≡ lineEnd s at + 1)
-    unfolding placedIn cellOf notDue loadCells capped
+    unfolding placedIn cellReadOf notDue loadCells capped
     placed-step l ls none d p =
         let q = ap (λ y. y .form) (line-form (l ⏎ ls) none d p) in
         absurd (let z : _≡_ {A = ℕ} 0 1 = cc in omega arith)
@@ -120,7 +120,7 @@ module _ (x : Listed) (s : List ℕ) (at n : ℕ) (r : LineRead) (e : r ≡ cell
         (ls : Lines)
         → linesOf (drop at s) ≡ ls
         → (loadCells x n (linesOf (drop at s)) ≡ unless (cellFault x (placedBy f)) n (loadCells (withCell x (placedBy f)) (n + 1) (linesOf (drop (r .next) s)))) × (at < r .next) × (r .next ≤ length s)
-    unfolding placedIn cellOf notDue
+    unfolding placedIn cellReadOf notDue
     by-lines (left t) d =
         let q = ap (λ y. y .form) (line-form (left t) none d refl) in
         absurd (let z : _≡_ {A = ℕ} 0 1 = cc in omega arith)
@@ -137,7 +137,7 @@ module _ (x : Listed) (s : List ℕ) (at n : ℕ) (r : LineRead) (e : r ≡ cell
   -- it is none: the outputs begin
   module _ (least : 1 ≤ x .outputs) (no : asCell (r .form) ≡ none) where
     other-step : (l : List ℕ) (ls : Lines) (o : Option Placed) → linesOf (drop at s) ≡ l ⏎ ls → placed l ≡ o → loadCells x n (l ⏎ ls) ≡ loadOuts (x .outputs) x n (l ⏎ ls)
-    unfolding placedIn cellOf asCell loadCells
+    unfolding placedIn cellReadOf asCell loadCells
     other-step l ls none d p = rw (p, loadCells)
     other-step l ls (some p) d h =
         let q = ap (λ y. asCell (y .form)) (line-form (l ⏎ ls) (some p) d h) in

@@ -31,7 +31,7 @@ use Rattle.placement.specs.declared.Mapped.{Mapped}
 use Rattle.placement.specs.Placement.{cells, crossbar}
 use Rattle.placement.specs.Map.{mapJob}
 use Rattle.placement.specs.Answer.{mapped}
-use Rattle.placement.specs.Filling.{headFrom, allCells, CellsFit, placed, jobIn, JobHeld}
+use Rattle.placement.specs.Filling.{headFrom, allCells, CellsFit, placedInto, jobIn, JobHeld}
 use Rattle.placement.proofs.Heads.{head-is}
 use Rattle.placement.proofs.Tabled.{same-numbers, cells-fit, all-right}
 
@@ -106,20 +106,20 @@ module _ (t : List ℕ) (job : Job) (held : JobHeld t job) where
       size-fits none = omega (arith, size-is)
 
       module _ (m : Mapped) (after : List ℕ) where
-        pub place-short : 0 < lacks → m ≡ mapped (refused 14 0) → after ≡ zeros room → Gives (placed d room) room m after
-        unfolding placed lowest unless bufferOf
+        pub place-short : 0 < lacks → m ≡ mapped (refused 14 0) → after ≡ zeros room → Gives (placedInto d room) room m after
+        unfolding placedInto lowest unless bufferOf
         place-short short a b =
-            let o : placed d room ≡ refused 14 0 = rw (lt-ltb room (size (crossbar d)) (omega (arith, size-is))) in
+            let o : placedInto d room ≡ refused 14 0 = rw (lt-ltb room (size (crossbar d)) (omega (arith, size-is))) in
             record { answer = a ∙ ap mapped (sym o); buffer = b ∙ ap (bufferOf room (λ (w : Whole). w .codes)) (sym o) }
 
         pub place-done :
             lacks ≤ 0
             → m ≡ record { refusal = record { number = 0; line = 0 }; head = head }
             → after ≡ padded room (cells d)
-            → Gives (placed d room) room m after
-        unfolding placed lowest unless bufferOf mapped refusalOf numberOf lineOf valueOf
+            → Gives (placedInto d room) room m after
+        unfolding placedInto lowest unless bufferOf mapped refusalOf numberOf lineOf valueOf
         place-done none a b =
-            let o : placed d room ≡ done (record { head = crossbar d; codes = cells d }) =
+            let o : placedInto d room ≡ done (record { head = crossbar d; codes = cells d }) =
             rw (le-ltb room (size (crossbar d)) (size-fits none)) in
             record {
               answer = a ∙ rw is (ap mapped (sym o));
@@ -180,7 +180,7 @@ module _ (s : List ℕ) (r : JobRead) (t : List ℕ) (read : Answered (accepted 
           sizes = rw is (job .sizes);
         }
 
-    pub map-is : (room : ℕ) → placed (jobIn t (r .job)) room ≡ mapJob s room
-    unfolding mapJob _then_ placed
+    pub map-is : (room : ℕ) → placedInto (jobIn t (r .job)) room ≡ mapJob s room
+    unfolding mapJob _then_ placedInto
     map-is room =
         let found = read-done s r (read .answer) none in rw (found .1, held-is (found .0) (found .1))

@@ -16,7 +16,7 @@ use Rattle.diagram.specs.Faults.{alike}
 use Rattle.diagram.specs.Wires.{hasRow, hasColumn, owners, rowOwners, columnOwners, rowOf, columnOf, namesZero, rowCount, columnCount}
 use Rattle.diagram.specs.Facts.{Facts}
 use Rattle.placement.specs.Placement.{edge, meeting, codeAt, cells, outRow}
-use Rattle.placement.specs.Sentences.{childAt, literal, edgeRow, edgeColumn, IsEdge, Placed, own, step, Sentences}
+use Rattle.placement.specs.Sentences.{childAt, literal, edgeRow, edgeColumn, IsEdge, CellStands, own, step, Sentences}
 use Rattle.placement.proofs.Owners.{number-below, owner-has, owner-below, owner-number, number-injective}
 use Rattle.placement.proofs.Places.{within-rows, column-below, row-owner, column-owner, meeting-same, meeting-down, meeting-up, meeting-over}
 use Rattle.placement.proofs.Readings as readings
@@ -210,7 +210,7 @@ module _ (d : Diagram) where
       → c ≡ edgeColumn d i k
       → codeAt d r c ≡ codeOf (edge d i k)
       → (codeAt d r c ≡ 0 → ⊥)
-      → Placed d r c
+      → CellStands d r c
   step-at i k r c least most child at-row at-column code some =
       let seen = edge-some i k (λ e. some (code ∙ e)) in
       step
@@ -229,7 +229,7 @@ module _ (d : Diagram) where
       → hasColumn d q ≡ true
       → q < idCount d
       → (codeAt d (rowOf d p) (columnOf d q) ≡ 0 → ⊥)
-      → Placed d (rowOf d p) (columnOf d q)
+      → CellStands d (rowOf d p) (columnOf d q)
   unfolding codeOf hasRow hasColumn
   placed-at p q row row-most column column-most some =
       let code = code-meeting p q row row-most column column-most in
@@ -268,7 +268,7 @@ module _ (d : Diagram) where
   ownerless-off r c past = rw (List·getD-eq-default (rowOwners d) 0 past)
 
   -- a cell that is not off is the on cell of a `b` label or the literal of an edge
-  pub placed : (r c : ℕ) → c < columnCount d → (codeAt d r c ≡ 0 → ⊥) → Placed d r c
+  pub placed : (r c : ℕ) → c < columnCount d → (codeAt d r c ≡ 0 → ⊥) → CellStands d r c
   placed r c within some =
       ⊎-elim
       (λ (below : r < length (rowOwners d)).
@@ -279,7 +279,7 @@ module _ (d : Diagram) where
       (below-or-not r (length (rowOwners d)))
 
   -- "All other cells are off."
-  others-off : (r c : ℕ) → c < columnCount d → (Placed d r c → ⊥) → codeAt d r c ≡ 0
+  others-off : (r c : ℕ) → c < columnCount d → (CellStands d r c → ⊥) → codeAt d r c ≡ 0
   others-off r c within none =
       ⊎-elim
       (λ (off : codeAt d r c ≡ 0). off)

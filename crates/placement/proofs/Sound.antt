@@ -22,7 +22,7 @@ use Rattle.placement.specs.Placement.{codeAt, cells, outRow, crossbar}
 use Rattle.placement.proofs.Places.{within-rows}
 use Rattle.placement.proofs.Readings.{one-row, outRow-below, out-on-row}
 use Rattle.placement.proofs.Count.{id-count}
-use Rattle.placement.specs.Sentences.{Placed, own, step, literal, IsEdge}
+use Rattle.placement.specs.Sentences.{CellStands, own, step, literal, IsEdge}
 use Rattle.placement.proofs.Sentences.{placed}
 
 module _ (d : Diagram) where
@@ -55,7 +55,7 @@ module _ (d : Diagram) (facts : Facts d) where
   literal-most i false e = omega (arith, facts .node i (e .least) (e .most) .tests)
   literal-most i true e = omega (arith, facts .node i (e .least) (e .most) .tests)
 
-  placed-most : (r c : ℕ) → Placed d r c → codeAt d r c ≤ 1 + 2 * d .switches
+  placed-most : (r c : ℕ) → CellStands d r c → codeAt d r c ≤ 1 + 2 * d .switches
   placed-most r c (own i most b at-row at-column code) = omega arith
   placed-most r c (step i side e at-row at-column code) = rw code (literal-most i side e)
 

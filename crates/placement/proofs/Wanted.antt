@@ -17,7 +17,7 @@ use Rattle.diagram.specs.Facts.{Facts}
 use Rattle.placement.specs.Placement.{codeAt, cells}
 use Rattle.placement.specs.Filling.{choose, edgeCode}
 use Rattle.placement.proofs.Places.{within-rows, column-below}
-use Rattle.placement.specs.Sentences.{childAt, literal, edgeRow, edgeColumn, IsEdge, Placed, own, step}
+use Rattle.placement.specs.Sentences.{childAt, literal, edgeRow, edgeColumn, IsEdge, CellStands, own, step}
 use Rattle.placement.proofs.Sentences.{stored, both-on, placed, edge-placed, edge-within}
 use Rattle.placement.proofs.Filled.{getD-zeros}
 
@@ -108,7 +108,7 @@ module _ (d : Diagram) (facts : Facts d) (room : ℕ) (fits : rowCount d * colum
         target-at (edgeRow d i k) (edgeColumn d i k) (at .0) (at .1) ∙ edge-placed d facts i side e ∙ edge-code d i side,
       )
 
-  whose-at : (r c p : ℕ) → p ≡ r * columnCount d + c → Placed d r c → Whose d p
+  whose-at : (r c p : ℕ) → p ≡ r * columnCount d + c → CellStands d r c → Whose d p
   unfolding ownPlace
   whose-at r c p e (own i most b at-row at-column code) = of-label i most b (e ∙ rw (at-row, at-column))
   whose-at r c p e (step i side is-edge at-row at-column code) =

@@ -99,8 +99,8 @@ headFrom rows height width v outs =
     }
 
 -- map's outcome for the diagram of an accepted job: ground 14, or its crossbar
-unfoldable pub placed : Diagram → ℕ → Outcome Whole
-placed d room =
+unfoldable pub placedInto : Diagram → ℕ → Outcome Whole
+placedInto d room =
     unless (lowest ((14 when ltb room (size (crossbar d))) ∷ [])) 0 (done (record { head = crossbar d; codes = cells d }))
 
 -- the diagram of a job whose nodes are in a table

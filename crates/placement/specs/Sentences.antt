@@ -44,15 +44,15 @@ pub record IsEdge (d : Diagram) (i : ℕ) (side : Bool) : Type 0 where
   pub present : childAt d i side ≡ 0 → ⊥
 
 -- what stands at row r and column c where the cell there is not off: the on cell of a `b` label, or the literal of an edge
-pub data Placed (d : Diagram) (r c : ℕ) : Type 0 where
-  own : (i : ℕ) → i < idCount d → labelAt d i ≡ labelB → r ≡ rowOf d i → c ≡ columnOf d i → codeAt d r c ≡ 1 → Placed d r c
+pub data CellStands (d : Diagram) (r c : ℕ) : Type 0 where
+  own : (i : ℕ) → i < idCount d → labelAt d i ≡ labelB → r ≡ rowOf d i → c ≡ columnOf d i → codeAt d r c ≡ 1 → CellStands d r c
   step :
       (i : ℕ) (side : Bool)
       → IsEdge d i side
       → r ≡ edgeRow d i (childAt d i side)
       → c ≡ edgeColumn d i (childAt d i side)
       → codeAt d r c ≡ codeOf (literal d i side)
-      → Placed d r c
+      → CellStands d r c
 
 pub record Sentences (d : Diagram) : Type 0 where
   -- "Row 0 belongs to terminal 1"
@@ -99,6 +99,6 @@ pub record Sentences (d : Diagram) : Type 0 where
       → edgeColumn d i (childAt d i a) ≡ edgeColumn d k (childAt d k b)
       → (i ≡ k) × (a ≡ b)
   -- "All other cells are off."
-  pub others-off : (r c : ℕ) → c < columnCount d → (Placed d r c → ⊥) → codeAt d r c ≡ 0
+  pub others-off : (r c : ℕ) → c < columnCount d → (CellStands d r c → ⊥) → codeAt d r c ≡ 0
   -- "Cells are stored row by row, one byte each"
   pub stored : (r c : ℕ) → r < rowCount d → c < columnCount d → getD (cells d) (r * columnCount d + c) 0 ≡ codeAt d r c

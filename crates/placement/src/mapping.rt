@@ -21,7 +21,7 @@ ghost use Rattle.jobs.specs.Answer.{jobRead};
 ghost use Rattle.jobs.specs.Job.{accepted};
 ghost use Rattle.jobs.specs.Spread.{flat};
 ghost use Rattle.placement.specs.Answer.{mapped};
-ghost use Rattle.placement.specs.Filling.{placed, jobIn, JobHeld};
+ghost use Rattle.placement.specs.Filling.{placedInto, jobIn, JobHeld};
 ghost use Rattle.placement.specs.Map.{mapJob};
 
 // A refusal: "0 as .. field of a record".
@@ -51,7 +51,7 @@ fn lacking(room: usize, size: usize) -> usize
 fn place(table: &[u16; TABLE], job: Job, cells: &mut [u8]) -> Mapped
     requires { ⌜ JobHeld (now table) job ⌝ }
     requires { ⌜ now cells ≡ zeros (length (now cells)) ⌝ }
-    ensures { λ r. ⌜ Answered (placed (jobIn (now (table .entry)) job) (length (now (cells .entry)))) mapped (λ w. w .codes) (length (now (cells .entry))) r (now (cells .exit)) ⌝ }
+    ensures { λ r. ⌜ Answered (placedInto (jobIn (now (table .entry)) job) (length (now (cells .entry)))) mapped (λ w. w .codes) (length (now (cells .entry))) r (now (cells .exit)) ⌝ }
 {
     let n = job.nodes as usize;
     let outs = job.outs;

@@ -3,7 +3,7 @@ use Prim.Native.Nat.{ℕ, _+_}
 use mathlib.Core.Path.{ap}
 use native.Mathlib.Omega.{arith}
 use lib.ListN.{getD}
-use Rattle.conduction.specs.Wires.{codes, codeAt}
+use Rattle.conduction.specs.Wires.{codes, codeMet}
 use borrow.Author.Needs.{needs}
 use Rattle.conduction.proofs.spreading.code_at.Statement.{statement}
 use Rattle.conduction.proofs.spreading.code_at.Tie as tie
@@ -21,7 +21,7 @@ cast-result : tie.Need-cast-result
 cast-result c = omega (arith, c .shared-slice-known2 .given (c .before .before .before .args .adds + c .before .adds-of .result))
 
 returns : tie.Need-returns
-unfolding codeAt codes
+unfolding codeMet codes
 returns c =
     let start = c .before .before .before in
     let adds = start .args .adds in (

@@ -3,7 +3,7 @@ use Prim.Native.Nat.{_-_, _≤_, _<_}
 use mathlib.Core.Path.{_≡_, refl}
 use native.Mathlib.Omega.{arith}
 use lib.ListN.{length, length-set}
-use Rattle.conduction.specs.Wires.{Marked}
+use Rattle.conduction.specs.Wires.{NewlyStamped}
 use Rattle.conduction.proofs.Parts.{marked-none, marked-more}
 use borrow.Author.Needs.{needs}
 use Rattle.conduction.proofs.spreading.mark.Statement.{statement}
@@ -11,7 +11,7 @@ use Rattle.conduction.proofs.spreading.mark.Tie as tie
 
 abbrev Inv-loop : tie.InvT-loop
 Inv-loop stamps₀ wires from to new i₀ stamps i =
-    (length stamps ≡ length stamps₀) × (from ≤ i) × (i ≤ to) × Marked wires from i new stamps₀ stamps
+    (length stamps ≡ length stamps₀) × (from ≤ i) × (i ≤ to) × NewlyStamped wires from i new stamps₀ stamps
 
 abbrev μ-loop : tie.MeasureT-loop
 μ-loop stamps₀ wires from to new i₀ stamps i = to - i
