@@ -1,13 +1,18 @@
 -- The text of a listing in parts, as print writes it: one cell or output more, and a row more.
 use Prim.Native.Nat.{ℕ, suc, _+_, _-_, _*_, _/_, _%_, _≤_, _<_}
 use mathlib.Core.Path.{_≡_, refl, sym, ap, _∙_}
+use mathlib.Core.Bool.{true}
 use mathlib.Core.List.{List, [], _∷_, _++_}
 use native.Mathlib.Omega.{arith}
 use native.Mathlib.Nat.{mul-le-mul-right, mul-le-mul-left}
 use native.Mathlib.Numerals.{add-one}
 use lib.ListN.{length, getD, take, drop, take-append-drop}
 use lib.Seq.{slice-empty, slice-cons, length-slice, length-take-le, take-take, drop-append-le}
+use lib.Dec.{eqb}
+use borrow.Author.Tests.{eqb-true}
 use Rattle.common.specs.Limits.{maxRows, maxColumns}
+use Rattle.common.specs.Lists.{all-of}
+use Rattle.common.proofs.Lists.{and-left, and-right}
 use Rattle.cells.specs.declared.Cell.{Cell}
 use Rattle.cells.specs.declared.Cell.the-variants.{Off}
 use Rattle.cells.specs.Code.{cellOf}
@@ -97,6 +102,25 @@ cell-text-split cells n p m e h k b =
     ap (cellLines n p) (slice-split cells p m e h k b)
     ∙ cell-lines-append n p (drop p (take m cells)) (drop m (take e cells))
     ∙ rw q
+
+-- cells that are all off have no line
+off-lines : (n p : ℕ) (s : List ℕ) → all-of (λ k. eqb k 0) s ≡ true → cellLines n p s ≡ []
+unfolding all-of cellLines cellLine cellOf
+off-lines n p [] h = refl
+off-lines n p (k ∷ s) h =
+    let off : k ≡ 0 = eqb-true k 0 (and-left (eqb k 0) (all-of (λ j. eqb j 0) s) h) in
+    rw off (off-lines n (suc p) s (and-right (eqb k 0) (all-of (λ j. eqb j 0) s) h))
+
+-- k cells that are off, passed over
+pub cell-text-pass :
+    (cells : List ℕ) (n p k e : ℕ)
+    → all-of (λ j. eqb j 0) (drop p (take (p + k) cells)) ≡ true
+    → p + k ≤ e
+    → e ≤ length cells
+    → cellText cells n p e ≡ cellText cells n (p + k) e
+unfolding cellText
+cell-text-pass cells n p k e off h l =
+    cell-text-split cells n p (p + k) e (omega arith) h (omega arith) ∙ rw (off-lines n p (drop p (take (p + k) cells)) off)
 
 -- a row more, of m rows
 pub cell-text-row :

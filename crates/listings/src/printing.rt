@@ -12,10 +12,11 @@ use forms::write::write_size;
 use forms::write::write_yes;
 ghost use mathlib.Core.Path.{_≡_};
 ghost use mathlib.Core.Bool.{true};
-ghost use Prim.Native.Nat.{_+_, _*_, _≤_};
-ghost use lib.ListN.{length};
+ghost use Prim.Native.Nat.{ℕ, _+_, _*_, _≤_};
+ghost use lib.ListN.{length, take, drop};
+ghost use lib.Dec.{eqb};
 ghost use Rattle.common.specs.Limits.{maxOutputs};
-ghost use Rattle.common.specs.Lists.{zeros};
+ghost use Rattle.common.specs.Lists.{zeros, all-of};
 ghost use Rattle.cells.specs.Record.{sound};
 ghost use Rattle.forms.specs.Written.{Written};
 ghost use Rattle.listings.specs.Listing.{cellLine, listing, print};
@@ -39,20 +40,53 @@ fn write_cell(out: &mut [u8], at: usize, r: u32, c: u32, cell: Cell) -> usize
     }
 }
 
-// The lines of the cells of a row, column by column. Most cells of a crossbar are off and have no line, so they are passed over here.
+// Whether the eight cells from a place on are off. The loop has one way out, so that it compiles to one look at eight bytes.
+fn eight_off(cells: &[u8], from: usize) -> bool
+    requires { ⌜ from + 8 ≤ length (now cells) ⌝ }
+    ensures { λ r. ⌜ r ≡ all-of (λ k. eqb k 0) (drop from (take (from + 8) (now (cells .entry)))) ⌝ }
+{
+    let mut ok = true;
+    let mut i = 0;
+    while i < 8 {
+        if cells[from + i] != 0 {
+            ok = false;
+        }
+        i += 1;
+    }
+    ok
+}
+
+// The column to go on with from column c on, in the row that begins at a place: cells that are off are passed over, eight at once.
+fn past_off(cells: &[u8], start: usize, c: usize, columns: usize) -> usize
+    requires { ⌜ (c ≤ columns) × (start + columns ≤ length (now cells)) ⌝ }
+    ensures { λ d. ⌜ (c ≤ d) × (d ≤ columns) × ((n : ℕ) → cellText (now (cells .entry)) n (start + c) (start + columns) ≡ cellText (now (cells .entry)) n (start + d) (start + columns)) ⌝ }
+{
+    let mut d = c;
+    while d + 8 <= columns {
+        if !eight_off(cells, start + d) {
+            return d;
+        }
+        d += 8;
+    }
+    d
+}
+
+// The lines of the cells of a row, column by column. Most cells of a crossbar are off and have no line, so many are passed over at once.
 fn write_row(out: &mut [u8], at: usize, cells: &[u8], r: usize, columns: usize) -> usize
     requires { ⌜ RowIn (now cells) r columns ⌝ }
     ensures { λ n. ⌜ Written (now (out .entry)) (now (out .exit)) at (cellText (now (cells .entry)) columns (r * columns) (r * columns + columns)) n ⌝ }
 {
     let start = r * columns;
     let mut next = at;
-    let mut c = 0;
+    let mut c = past_off(cells, start, 0, columns);
     while c < columns {
         let code = cells[start + c];
-        if code != Cell::OFF {
+        if code == Cell::OFF {
+            c += 1;
+        } else {
             next = write_cell(out, next, r as u32, c as u32, Cell::from_code(code));
+            c = past_off(cells, start, c + 1, columns);
         }
-        c += 1;
     }
     next
 }
