@@ -1,6 +1,6 @@
 -- `listings::printing::eight_off` meets its contract: the eight cells are off where the first i of them are and the others are.
 use Prim.Native.Nat.{ℕ, _+_, _-_}
-use mathlib.Core.Path.{_≡_, refl, ap, _∙_}
+use mathlib.Core.Path.{_≡_, ap, _∙_}
 use mathlib.Core.Logic.{inl, inr, ⊎-elim}
 use mathlib.Core.Bool.{_&&_}
 use native.Mathlib.Omega.{arith}

@@ -2,7 +2,7 @@
 -- that are off have no line.
 use borrow.Author.Needs.{needs}
 use Prim.Native.Nat.{_+_, _*_, _-_, _≤_}
-use mathlib.Core.Path.{_≡_, _∙_}
+use mathlib.Core.Path.{_∙_}
 use native.Mathlib.Omega.{arith}
 use Rattle.common.specs.Limits.{maxRows, maxColumns}
 use Rattle.forms.proofs.Parts.{Going, going-start, going-part, going-as, going-end}
