@@ -1,5 +1,5 @@
--- Round trips of the calls that a C program links, over the bytes of their buffers: "Print then load gives that crossbar; load then print
--- gives that text, where neither refuses." PrintCall, LoadCall, LightCall and MapCall are the contracts of the calls
+-- Demand 2 of print and load, of the calls that a C program links, over the bytes of their buffers: print then load gives that crossbar,
+-- and load then print gives that text, where neither refuses. PrintCall, LoadCall, LightCall and MapCall are the contracts of the calls
 -- (crates/crossbar/specs/Host.antt), and numberPart and lowPart are CROSSBAR_NUMBER and CROSSBAR_VALUE of include/crossbar.h. A text that
 -- print left in a buffer is handed to load as its first bytes, as many as print's value says.
 -- The proof is `round-trips` in proofs/RoundTrips.antt: RoundTrips.

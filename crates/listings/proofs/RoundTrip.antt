@@ -1,5 +1,4 @@
--- Print and load are inverse. Document 01, demand 2: "Print then load gives that crossbar; load then print gives that text, where
--- neither refuses."
+-- Print and load are inverse: the proofs of the statements of specs/RoundTrip.antt.
 use Prim.Native.Nat.{ℕ, _-_, _≤_}
 use mathlib.Core.Path.{_≡_, refl, sym, ap, _∙_}
 use mathlib.Core.Bool.{Bool, true, not}
@@ -10,14 +9,14 @@ use lib.Dec.{eqb, leb}
 use lib.Seq.{take-append-le, drop-append-le}
 use borrow.Author.Tests.{le-ltb, le-leb, not-false}
 use Rattle.common.specs.Lists.{zeros, padded, all-of}
-use Rattle.common.specs.Limits.{maxOutputs}
 use Rattle.common.specs.Outcome.{done, lowest, unless}
 use Rattle.common.proofs.Lists.{all-of-zeros}
 use Rattle.common.proofs.Outcome.{unless-done, not-met}
-use Rattle.cells.specs.Record.{Whole, size, sound}
+use Rattle.cells.specs.Record.{size, sound}
 use Rattle.cells.specs.declared.Crossbar.{Crossbar}
 use Rattle.listings.specs.Listing.{listing, print}
-use Rattle.listings.specs.Loading.{recordOf, cellsOf, load}
+use Rattle.listings.specs.Loading.{recordOf, cellsOf}
+use Rattle.listings.specs.RoundTrip.{PrintThenLoad, PrintThenLoadDone, PrintThenLoadPadded, LoadThenPrint, LoadThenPrintDone, LoadThenPrintPadded}
 use Rattle.listings.proofs.Printed.{taken-padded, sound-facts, listing-read, load-listing}
 use Rattle.listings.proofs.Loaded.{load-done, loaded-text}
 
@@ -32,24 +31,13 @@ print-done x cells room s h =
     let e : done (listing x cells) ≡ done s = u .1 in
     (not-false (sound x cells) (not-met 11 (not (sound x cells)) _ (u .0)), cc)
 
--- "Print then load gives that crossbar": the text is loaded into any buffer that holds the cells
-pub load-printed :
-    (x : Crossbar) (cells : List ℕ) (room room′ : ℕ) (s : List ℕ)
-    → length (x .outs) ≡ maxOutputs
-    → print x cells room ≡ done s
-    → size x ≤ room′
-    → load s room′ ≡ done (record { head = x; codes = take (size x) cells })
+-- print, then load
+pub load-printed : PrintThenLoadDone
 load-printed x cells room room′ s wide h fits =
     let p = print-done x cells room s h in
     rw (← (p .1)) (load-listing x cells room′ wide (p .0) fits)
 
--- the same, where neither refuses
-pub load-print :
-    (x : Crossbar) (cells : List ℕ) (room room′ : ℕ) (s : List ℕ) (w : Whole)
-    → length (x .outs) ≡ maxOutputs
-    → print x cells room ≡ done s
-    → load s room′ ≡ done w
-    → (w .head ≡ x) × (w .codes ≡ take (size x) cells)
+pub load-print : PrintThenLoad
 load-print x cells room room′ s w wide h g =
     let p = print-done x cells room s h in
     let d = listing-read x cells 1 wide (sound-facts x cells (p .0)) in
@@ -58,12 +46,7 @@ load-print x cells room room′ s w wide h g =
     let same : d .0 ≡ l .0 = cc in
     (sym (l .2) ∙ ap recordOf (sym same) ∙ d .2, sym (l .3) ∙ ap cellsOf (sym same) ∙ d .3)
 
--- the same of the whole slice of cells: ground 12 leaves only zeros past the R·C cells, as load's buffer has them
-pub load-printed-padded :
-    (x : Crossbar) (cells : List ℕ) (room : ℕ) (s : List ℕ)
-    → length (x .outs) ≡ maxOutputs
-    → print x cells room ≡ done s
-    → (w : Whole) × (load s (length cells) ≡ done w) × (w .head ≡ x) × (padded (length cells) (w .codes) ≡ cells)
+pub load-printed-padded : PrintThenLoadPadded
 load-printed-padded x cells room s wide h =
     let f = sound-facts x cells (print-done x cells room s h .0) in (
       record { head = x; codes = take (size x) cells },
@@ -81,22 +64,13 @@ pub print-sound :
 unfolding print lowest unless
 print-sound x cells room h fits = rw (h, le-ltb room (length (listing x cells)) fits)
 
--- "load then print gives that text": the crossbar is printed into any buffer that holds the text
-pub print-load :
-    (s : List ℕ) (room room′ : ℕ) (w : Whole)
-    → load s room ≡ done w
-    → length s ≤ room′
-    → print (w .head) (w .codes) room′ ≡ done s
+-- load, then print
+pub print-load : LoadThenPrintDone
 print-load s room room′ w h fits =
     let t = loaded-text s room w h in
     rw (t .1) at (print-sound (w .head) (w .codes) room′ (t .0) (rw (t .1) fits))
 
--- the same, where neither refuses
-pub print-loaded :
-    (s : List ℕ) (room room′ : ℕ) (w : Whole) (s′ : List ℕ)
-    → load s room ≡ done w
-    → print (w .head) (w .codes) room′ ≡ done s′
-    → s′ ≡ s
+pub print-loaded : LoadThenPrint
 print-loaded s room room′ w s′ h g = sym (print-done (w .head) (w .codes) room′ s′ g .1) ∙ loaded-text s room w h .1
 
 -- what holds of 0 holds of a list with zeros after it just where it holds of the list
@@ -118,12 +92,7 @@ module _ (x : Crossbar) (cells : List ℕ) (n : ℕ) (h : size x ≤ length cell
   unfolding print listing
   print-zeros room = rw (sound-zeros, take-append-le (size x) cells (zeros n) h)
 
--- "load then print", of a buffer that is longer than the R·C cells: load leaves zeros past them
-pub print-load-padded :
-    (s : List ℕ) (room room′ n : ℕ) (w : Whole)
-    → load s room ≡ done w
-    → length s ≤ room′
-    → print (w .head) (padded n (w .codes)) room′ ≡ done s
+pub print-load-padded : LoadThenPrintPadded
 unfolding padded
 print-load-padded s room room′ n w h fits =
     let enough = sound-facts (w .head) (w .codes) (loaded-text s room w h .0) .enough in
