@@ -15,7 +15,7 @@ use Rattle.conduction.specs.declared.Lighted.{Lighted}
 use Rattle.conduction.specs.Light.{light, lighted}
 use Rattle.listings.specs.declared.printing.Printed.{Printed}
 use Rattle.listings.specs.Listing.{print}
-use Rattle.listings.specs.Printing.{printedOf, Answered as PrintAnswered}
+use Rattle.listings.specs.Printing.{printed}
 use Rattle.crossbar.specs.Bytes.{holdsRecord, recordFrom}
 use Rattle.crossbar.specs.Host.{numberUnit, packed, mostNumber, packedFrom, ofRecord, hostLight, hostPrint, LightCall, PrintCall}
 use Rattle.crossbar.proofs.Records.{none-held, one-held}
@@ -79,22 +79,22 @@ module _ (x : Crossbar) (cells setting before after : List ℕ) (lit : Lighted) 
         buffer = a .buffer;
       })
 
-module _ (x : Crossbar) (cells : List ℕ) (room : ℕ) (printed : Printed) (after : List ℕ) (a : PrintAnswered (print x cells room) room printed after) where
-  pub print-numbers : printed .refusal .number ≤ mostNumber
-  unfolding printedOf
+module _ (x : Crossbar) (cells : List ℕ) (room : ℕ) (p : Printed) (after : List ℕ) (a : Answered (print x cells room) printed (λ t. t) room p after) where
+  pub print-numbers : p .refusal .number ≤ mostNumber
+  unfolding printed
   print-numbers = rw (a .answer) (number-most (print x cells room) (print-numbered x cells room))
 
   pub print-answered :
       (s : List ℕ) (r : ℕ)
       → holdsRecord s ≡ true
       → x ≡ recordFrom s
-      → r ≡ packedFrom (printed .refusal) (printed .length)
+      → r ≡ packedFrom (p .refusal) (p .length)
       → Answered (hostPrint s cells room) (packed length) (λ t. t) room r after
-  unfolding hostPrint printedOf
+  unfolding hostPrint printed
   print-answered s r h e f =
       rw (one-held s (print (recordFrom s) cells room) h, ← e)
       (record {
-        answer = answered length (print x cells room) (printed .refusal) (printed .length) r (print-numbered x cells room)
+        answer = answered length (print x cells room) (p .refusal) (p .length) r (print-numbered x cells room)
             (ap (λ (l : Printed). l .refusal) (a .answer)) (ap (λ (l : Printed). l .length) (a .answer)) f;
         buffer = a .buffer;
       })

@@ -17,7 +17,7 @@ use Rattle.placement.specs.Map.{mapJob}
 use Rattle.placement.specs.Answer.{mapped}
 use Rattle.listings.specs.declared.loading.Loaded.{Loaded}
 use Rattle.listings.specs.Loading.{load}
-use Rattle.listings.specs.Loader.{loadedOf, Handed}
+use Rattle.listings.specs.Loader.{loaded}
 use Rattle.crossbar.specs.Bytes.{recordLength, recordBytes}
 use Rattle.crossbar.specs.Host.{numberUnit, packed, mostNumber, packedFrom, delivery, cellsLeft, forRecord, cellsDue, Delivered}
 use Rattle.crossbar.proofs.Numbers.{ByGround, of-refused, unless-some, number-most, map-numbered, load-numbered}
@@ -104,9 +104,9 @@ map-beneath text before after r a =
 
 pub load-beneath :
     (text : List ℕ) (room : ℕ) (r : Loaded) (cells : List ℕ)
-    → Handed (load text room) room r cells
+    → Answered (load text room) loaded (λ w. w .codes) room r cells
     → Beneath (load text room) room (r .refusal) (r .head) cells
-unfolding loadedOf
+unfolding loaded
 load-beneath text room r cells a =
     let o = load text room in
     let numbered = load-numbered text room in

@@ -9,7 +9,7 @@ use lib.Dec.{ltb}
 use borrow.Author.Tests.{lt-ltb, le-ltb}
 use Rattle.common.specs.Lists.{zeros, padded}
 use Rattle.common.specs.Limits.{maxOutputs}
-use Rattle.common.specs.Outcome.{Outcome, done, refused, _when_, lowest, unless, refusalOf, numberOf, lineOf, valueOf, bufferOf}
+use Rattle.common.specs.Outcome.{Outcome, done, refused, _when_, lowest, unless, refusalOf, numberOf, lineOf, valueOf, bufferOf, Answered}
 use Rattle.figures.specs.Position.{splice}
 use Rattle.cells.specs.declared.Crossbar.{Crossbar}
 use Rattle.cells.specs.Record.{size, sound}
@@ -18,7 +18,7 @@ use Rattle.forms.specs.Forms.{crossbarForm, endForm}
 use Rattle.forms.specs.Written.{Written}
 use Rattle.listings.specs.declared.printing.Printed.{Printed}
 use Rattle.listings.specs.Listing.{cellLines, outLines, listing, print}
-use Rattle.listings.specs.Printing.{printedOf, textAnswer, refusedAnswer, Answered, cellText, outText, RowsIn}
+use Rattle.listings.specs.Printing.{printed, textAnswer, refusedAnswer, cellText, outText, RowsIn}
 use Rattle.listings.proofs.Printed.{Sound, sound-facts}
 
 module _ (x : Crossbar) (cells : List ℕ) where
@@ -65,8 +65,8 @@ pub answered-refused :
     → o ≡ refused k 0
     → r ≡ refusedAnswer k
     → out ≡ zeros room
-    → Answered o room r out
-unfolding printedOf refusalOf numberOf lineOf valueOf bufferOf
+    → Answered o printed (λ (t : List ℕ). t) room r out
+unfolding printed refusalOf numberOf lineOf valueOf bufferOf
 answered-refused o room k r out e a b = record { answer = rw e a; buffer = rw e b }
 
 drop-zeros : (k n : ℕ) → drop k (zeros n) ≡ zeros (n - k)
@@ -85,8 +85,8 @@ module _ (x : Crossbar) (cells s t : List ℕ) (room n : ℕ) (h : sound x cells
   clear-length = ap length z ∙ length-replicate room 0
 
   -- it fits
-  pub answered-done : (r : Printed) → n ≤ room → r ≡ textAnswer n → Answered (print x cells room) room r t
-  unfolding printedOf refusalOf numberOf lineOf valueOf bufferOf
+  pub answered-done : (r : Printed) → n ≤ room → r ≡ textAnswer n → Answered (print x cells room) printed (λ (t : List ℕ). t) room r t
+  unfolding printed refusalOf numberOf lineOf valueOf bufferOf
   answered-done r k a =
       let l = clear-length in
       let f = w .within (omega arith) in

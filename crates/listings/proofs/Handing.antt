@@ -9,7 +9,7 @@ use borrow.Author.Tests.{lt-ltb, le-ltb}
 use Rattle.common.specs.declared.Refusal.{Refusal}
 use Rattle.common.specs.Limits.{maxOutputs}
 use Rattle.common.specs.Lists.{padded}
-use Rattle.common.specs.Outcome.{Outcome, done, refused, _then_, lowest, unless, refusalOf, numberOf, lineOf, valueOf, bufferOf}
+use Rattle.common.specs.Outcome.{Outcome, done, refused, _then_, lowest, unless, refusalOf, numberOf, lineOf, valueOf, bufferOf, Answered}
 use Rattle.common.proofs.Lists.{true-or-false}
 use Rattle.figures.specs.Line.{linesOf}
 use Rattle.cells.specs.Record.{Whole, size}
@@ -26,7 +26,7 @@ use Rattle.listings.specs.declared.loading.Outputs.{Outputs}
 use Rattle.listings.specs.declared.loading.Reached.{Reached}
 use Rattle.listings.specs.declared.loading.Reached.the-variants as reached
 use Rattle.listings.specs.Loading.{Listed, sized, sizeFault, loadOuts, loadCells, loadFrom, recordOf, cellsOf, fitted}
-use Rattle.listings.specs.Loader.{loadedOf, Handed, listed, sizesIn, outputsOf, kept, CellsRead, CellsReached}
+use Rattle.listings.specs.Loader.{loaded, listed, sizesIn, outputsOf, kept, CellsRead, CellsReached}
 use Rattle.listings.proofs.Kept.{kept-padded}
 use Rattle.listings.proofs.Loaded.{outs-told}
 
@@ -40,8 +40,8 @@ pub handed-as :
     {o : Outcome Whole} {m : ℕ} {r : Loaded} {cells : List ℕ} (p : Outcome Whole) (room : ℕ)
     → p ≡ o
     → m ≡ room
-    → Handed o m r cells
-    → Handed p room r cells
+    → Answered o loaded (λ (w : Whole). w .codes) m r cells
+    → Answered p loaded (λ (w : Whole). w .codes) room r cells
 handed-as p room e k h = rw (e, ← k) h
 
 -- the same reading, and the same length of the buffer
@@ -49,16 +49,16 @@ pub handed-rest :
     {r : Loaded} {cells : List ℕ} (o p : Outcome Listed) (m room : ℕ)
     → o ≡ p
     → m ≡ room
-    → Handed (p then λ x. fitted m x) m r cells
-    → Handed (o then λ x. fitted room x) room r cells
+    → Answered (p then λ x. fitted m x) loaded (λ (w : Whole). w .codes) m r cells
+    → Answered (o then λ x. fitted room x) loaded (λ (w : Whole). w .codes) room r cells
 handed-rest o p m room e k h = rw (e, ← k) h
 
 pub handed-end :
     {r : Loaded} {cells : List ℕ} (o : Outcome Listed) (x : Listed) (m room : ℕ)
     → o ≡ done x
     → m ≡ room
-    → Handed (fitted m x) m r cells
-    → Handed (o then λ x. fitted room x) room r cells
+    → Answered (fitted m x) loaded (λ (w : Whole). w .codes) m r cells
+    → Answered (o then λ x. fitted room x) loaded (λ (w : Whole). w .codes) room r cells
 unfolding _then_
 handed-end o x m room e k h = rw (e, ← k) h
 
@@ -79,10 +79,10 @@ module _ (s : SizeForm) (codes stands : List ℕ) (room : ℕ) where
       → cells ≡ kept room codes
       → length codes ≤ s .rows * s .columns
       → s .rows * s .columns ≤ room
-      → Handed (fitted room (listed s codes stands)) room
+      → Answered (fitted room (listed s codes stands)) loaded (λ (w : Whole). w .codes) room
       (record { refusal = record { number = 0; line = 0 }; head = recordOf (listed s codes stands) })
       cells
-  unfolding loadedOf refusalOf numberOf lineOf valueOf bufferOf cellsOf
+  unfolding loaded refusalOf numberOf lineOf valueOf bufferOf cellsOf
   handed-done cells e h k =
       handed-as (fitted room (listed s codes stands)) room (fitted-long k) refl
       (record { answer = refl; buffer = e ∙ kept-padded room (s .rows * s .columns) codes h k })

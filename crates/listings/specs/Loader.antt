@@ -1,4 +1,5 @@
--- Load's answer as the call hands it over, and what its reader holds between two lines.
+-- Load's answer as the call hands it over, and what its reader holds between two lines. The contract of load is `Answered` of
+-- common/specs/Outcome.antt, of the outcome `load`.
 use Prim.Native.Nat.{ℕ, _+_, _*_, _≤_}
 use mathlib.Core.Path.{_≡_}
 use mathlib.Core.Bool.{Bool, true, false}
@@ -6,7 +7,7 @@ use mathlib.Core.List.{List, [], _++_}
 use lib.ListN.{length, take, drop}
 use Rattle.common.specs.Limits.{maxOutputs}
 use Rattle.common.specs.Lists.{zeros, padded}
-use Rattle.common.specs.Outcome.{Outcome, done, refused, refusalOf, valueOf, bufferOf}
+use Rattle.common.specs.Outcome.{Outcome, done, refused, refusalOf, valueOf}
 use Rattle.figures.specs.Line.{linesOf}
 use Rattle.cells.specs.Record.{Whole, no-record, inRange}
 use Rattle.forms.specs.declared.SizeForm.{SizeForm}
@@ -19,13 +20,8 @@ use Rattle.listings.specs.declared.loading.Outputs.{Outputs}
 use Rattle.listings.specs.Loading.{Listed, loadOuts, loadCells}
 
 -- the refusal, and the record
-unfoldable pub loadedOf : Outcome Whole → Loaded
-loadedOf o = record { refusal = refusalOf o; head = valueOf no-record (λ w. w .head) o }
-
--- what load hands over for an outcome: the answer, and every byte of the output buffer of that many bytes
-pub record Handed (o : Outcome Whole) (room : ℕ) (r : Loaded) (cells : List ℕ) : Type 0 where
-  pub answer : r ≡ loadedOf o
-  pub buffer : cells ≡ bufferOf room (λ w. w .codes) o
+unfoldable pub loaded : Outcome Whole → Loaded
+loaded o = record { refusal = refusalOf o; head = valueOf no-record (λ w. w .head) o }
 
 -- a listing so far: the sizes of its first line, the codes of the cells up to the last one named, the output rows
 abbrev pub listed : SizeForm → List ℕ → List ℕ → Listed

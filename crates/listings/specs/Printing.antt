@@ -1,16 +1,16 @@
--- Print's answer as the call hands it over, and the text of a part of the cells and of the outputs.
+-- Print's answer as the call hands it over, and the text of a part of the cells and of the outputs. The contract of print is `Answered` of
+-- common/specs/Outcome.antt, of the outcome `print`.
 use Prim.Native.Nat.{ℕ, _+_, _*_, _≤_, _<_}
-use mathlib.Core.Path.{_≡_}
 use mathlib.Core.List.{List}
 use lib.ListN.{length, take, drop}
 use Rattle.common.specs.Limits.{maxRows, maxColumns}
-use Rattle.common.specs.Outcome.{Outcome, refusalOf, valueOf, bufferOf}
+use Rattle.common.specs.Outcome.{Outcome, refusalOf, valueOf}
 use Rattle.listings.specs.declared.printing.Printed.{Printed}
 use Rattle.listings.specs.Listing.{cellLines, outLines}
 
 -- the refusal, and the text's length
-unfoldable pub printedOf : Outcome (List ℕ) → Printed
-printedOf o = record { refusal = refusalOf o; length = valueOf 0 length o }
+unfoldable pub printed : Outcome (List ℕ) → Printed
+printed o = record { refusal = refusalOf o; length = valueOf 0 length o }
 
 -- the answer for a text of n bytes, and for a refusal with line 0
 abbrev pub textAnswer : ℕ → Printed
@@ -18,11 +18,6 @@ textAnswer n = record { refusal = record { number = 0; line = 0 }; length = n }
 
 abbrev pub refusedAnswer : ℕ → Printed
 refusedAnswer k = record { refusal = record { number = k; line = 0 }; length = 0 }
-
--- what print hands over for an outcome: the answer, and every byte of the output buffer of that many bytes
-pub record Answered (o : Outcome (List ℕ)) (room : ℕ) (r : Printed) (out : List ℕ) : Type 0 where
-  pub answer : r ≡ printedOf o
-  pub buffer : out ≡ bufferOf room (λ s. s) o
 
 -- the lines of the cells from place p up to, not including, place e, of n columns
 unfoldable pub cellText : List ℕ → ℕ → ℕ → ℕ → List ℕ

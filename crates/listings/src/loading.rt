@@ -15,10 +15,10 @@ ghost use Prim.Native.Nat.{ℕ, _+_, _*_, _≤_, _<_};
 ghost use lib.ListN.{length, drop, set};
 ghost use Rattle.common.specs.Limits.{maxRows, maxColumns, maxOutputs, maxInput};
 ghost use Rattle.common.specs.Lists.{zeros, padded};
-ghost use Rattle.common.specs.Outcome.{refused, _then_};
+ghost use Rattle.common.specs.Outcome.{refused, _then_, Answered};
 ghost use Rattle.figures.specs.Line.{linesOf};
 ghost use Rattle.listings.specs.Loading.{Listed, switchBelow, cellFault, outRowFault, loadEnd, loadOuts, loadCells, fitted, loadAt, load};
-ghost use Rattle.listings.specs.Loader.{Handed, listed, sizesIn, placedBy, outputsOf, kept, CellsReached};
+ghost use Rattle.listings.specs.Loader.{loaded, listed, sizesIn, placedBy, outputsOf, kept, CellsReached};
 
 // Ground 12: a cell or an output row is not where it may be, or names a switch that is not there.
 const MISPLACED: u32 = 12;
@@ -108,7 +108,7 @@ fn store(cells: &mut [u8], place: usize, code: u8)
 
 // A refusal: zeros in the whole buffer, and 0 as every field of the record.
 fn refuse(refusal: Refusal, cells: &mut [u8]) -> Loaded
-    ensures { λ r. ⌜ Handed (refused (refusal .number) (refusal .line)) (length (now (cells .entry))) r (now (cells .exit)) ⌝ }
+    ensures { λ r. ⌜ Answered (refused (refusal .number) (refusal .line)) loaded (λ w. w .codes) (length (now (cells .entry))) r (now (cells .exit)) ⌝ }
 {
     common::clear(cells);
     Loaded {
@@ -234,7 +234,7 @@ fn finish(s: SizeForm, outs: [u16; MAX_OUTPUTS], cells: &mut [u8]) -> Loaded
         → now (cells .entry) ≡ kept (length (now (cells .entry))) codes
         → length codes ≤ s .rows * s .columns
         → padded maxOutputs stands ≡ outs
-        → Handed (fitted (length (now (cells .entry))) (listed s codes stands)) (length (now (cells .entry))) r (now (cells .exit))) ⌝ }
+        → Answered (fitted (length (now (cells .entry))) (listed s codes stands)) loaded (λ w. w .codes) (length (now (cells .entry))) r (now (cells .exit))) ⌝ }
 {
     let size = (s.rows * s.columns) as usize;
     if cells.len() < size {
@@ -262,8 +262,8 @@ fn finish(s: SizeForm, outs: [u16; MAX_OUTPUTS], cells: &mut [u8]) -> Loaded
 fn load_rest(text: &[u8], at: usize, line: u32, s: SizeForm, cells: &mut [u8]) -> Loaded
     requires { ⌜ (sizesIn s ≡ true) × (line ≤ maxInput + 1) × (now cells ≡ zeros (length (now cells))) ⌝ }
     ensures { λ r.
-        ⌜ Handed (loadCells (listed s [] []) line (linesOf (drop at (now (text .entry)))) then λ x. fitted (length (now (cells .entry))) x)
-        (length (now (cells .entry))) r (now (cells .exit)) ⌝ }
+        ⌜ Answered (loadCells (listed s [] []) line (linesOf (drop at (now (text .entry)))) then λ x. fitted (length (now (cells .entry))) x)
+        loaded (λ w. w .codes) (length (now (cells .entry))) r (now (cells .exit)) ⌝ }
 {
     match load_cells(text, at, line, s, cells) {
         Reached::Refused(refusal) => refuse(refusal, cells),
@@ -287,8 +287,8 @@ fn load_rest(text: &[u8], at: usize, line: u32, s: SizeForm, cells: &mut [u8]) -
 pub fn load_from(text: &[u8], at: usize, line: u32, cells: &mut [u8]) -> Loaded
     requires { ⌜ line ≤ maxInput ⌝ }
     ensures { λ r.
-        ⌜ Handed (loadAt line (linesOf (drop at (now (text .entry)))) (length (now (cells .entry)))) (length (now (cells .entry))) r
-        (now (cells .exit)) ⌝ }
+        ⌜ Answered (loadAt line (linesOf (drop at (now (text .entry)))) (length (now (cells .entry)))) loaded (λ w. w .codes)
+        (length (now (cells .entry))) r (now (cells .exit)) ⌝ }
 {
     let read = forms::size_line(text, at, line);
     let form = read.form;
@@ -305,7 +305,7 @@ pub fn load_from(text: &[u8], at: usize, line: u32, cells: &mut [u8]) -> Loaded
 // Listing text and an output buffer in, record and cells out.
 pub fn load(text: &[u8], cells: &mut [u8]) -> Loaded
     ensures { λ r.
-        ⌜ Handed (load (now (text .entry)) (length (now (cells .entry)))) (length (now (cells .entry))) r (now (cells .exit)) ⌝ }
+        ⌜ Answered (load (now (text .entry)) (length (now (cells .entry)))) loaded (λ w. w .codes) (length (now (cells .entry))) r (now (cells .exit)) ⌝ }
 {
     load_from(text, 0, 1, cells)
 }

@@ -17,10 +17,11 @@ ghost use lib.ListN.{length, take, drop};
 ghost use lib.Dec.{eqb};
 ghost use Rattle.common.specs.Limits.{maxOutputs};
 ghost use Rattle.common.specs.Lists.{zeros, all-of};
+ghost use Rattle.common.specs.Outcome.{Answered};
 ghost use Rattle.cells.specs.Record.{sound};
 ghost use Rattle.forms.specs.Written.{Written};
 ghost use Rattle.listings.specs.Listing.{cellLine, listing, print};
-ghost use Rattle.listings.specs.Printing.{textAnswer, refusedAnswer, Answered, cellText, outText, RowIn, RowsIn};
+ghost use Rattle.listings.specs.Printing.{printed, textAnswer, refusedAnswer, cellText, outText, RowIn, RowsIn};
 
 // What print answers: the refusal, and the text's length.
 pub struct Printed {
@@ -163,7 +164,7 @@ fn refuse(buffer: &mut [u8], number: u32) -> Printed
 
 // Record, cells and an output buffer in, text out. Print checks 12, then 14, with line 0.
 pub fn print(x: Crossbar, cells: &[u8], out: &mut [u8]) -> Printed
-    ensures { λ r. ⌜ Answered (print x (now (cells .entry)) (length (now (out .entry)))) (length (now (out .entry))) r (now (out .exit)) ⌝ }
+    ensures { λ r. ⌜ Answered (print x (now (cells .entry)) (length (now (out .entry)))) printed (λ s. s) (length (now (out .entry))) r (now (out .exit)) ⌝ }
 {
     if !checks::is_sound(x, cells) {
         return refuse(out, 12);

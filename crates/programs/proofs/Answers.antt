@@ -9,11 +9,10 @@ use lib.Seq.{take-at}
 use Rattle.common.specs.Limits.{maxRows, maxColumns, maxSwitches, maxOutputs, maxInput}
 use Rattle.common.specs.Lists.{zeros, padded}
 use Rattle.common.proofs.Lists.{length-padded}
-use Rattle.common.specs.Outcome.{Outcome, done, _then_, numberOf, refusalOf, valueOf, bufferOf, Answered as Promised}
+use Rattle.common.specs.Outcome.{Outcome, done, _then_, numberOf, refusalOf, valueOf, bufferOf, Answered}
 use Rattle.figures.specs.Line.{linesOf, lineEnd}
 use Rattle.cells.specs.declared.Crossbar.{Crossbar}
 use Rattle.cells.specs.Record.{Whole}
-use Rattle.common.specs.Outcome as outcome
 use Rattle.placement.specs.declared.Mapped.{Mapped}
 use Rattle.placement.specs.Map.{mapJob}
 use Rattle.placement.specs.Answer.{mapped}
@@ -22,11 +21,11 @@ use Rattle.conduction.specs.Light.{Lit, light, lighted}
 use Rattle.listings.specs.declared.printing.Printed.{Printed}
 use Rattle.listings.specs.declared.loading.Loaded.{Loaded}
 use Rattle.listings.specs.Listing.{print}
-use Rattle.listings.specs.Printing.{Answered}
+use Rattle.listings.specs.Printing.{printed}
 use Rattle.listings.specs.Loading.{Listed, loadFrom, loadAt, recordOf, cellsOf}
-use Rattle.listings.specs.Loader.{loadedOf, Handed}
+use Rattle.listings.specs.Loader.{loaded}
 use Rattle.programs.specs.declared.setting.SetLine.{SetLine}
-use Rattle.programs.specs.Programs.{printed, mapProgram, setLine, readings, lightAndRead, lightProgram}
+use Rattle.programs.specs.Programs.{programText, mapProgram, setLine, readings, lightAndRead, lightProgram}
 use Rattle.programs.specs.Setting.{setFound, setOf}
 use Rattle.programs.specs.Texts.{Said}
 use Rattle.programs.proofs.Texts.{said-as}
@@ -56,15 +55,15 @@ answered-as :
     (x y : Crossbar) (c d : List ℕ) (n : ℕ) (r : Printed) (out : List ℕ)
     → x ≡ y
     → c ≡ d
-    → Answered (print x c n) n r out
-    → Answered (print y d n) n r out
+    → Answered (print x c n) printed (λ (t : List ℕ). t) n r out
+    → Answered (print y d n) printed (λ (t : List ℕ). t) n r out
 answered-as x y c d n r out e f p = rw (e, f) at p
 
 lit-as : (n m : ℕ) (u v : List ℕ) → n ≡ m → u ≡ v → _≡_ {A = Lit} (record { count = n; wires = u }) (record { count = m; wires = v })
 lit-as n m u v e f = rw (e, f)
 
 -- map, into the program's buffer
-module _ (s : List ℕ) (size : ℕ) (after : List ℕ) (m : Mapped) (a : outcome.Answered (mapJob s size) mapped (λ (w : Whole). w .codes) size m after) (room : size ≡ maxRows * maxColumns) (short : length s ≤ maxInput) where
+module _ (s : List ℕ) (size : ℕ) (after : List ℕ) (m : Mapped) (a : Answered (mapJob s size) mapped (λ (w : Whole). w .codes) size m after) (room : size ≡ maxRows * maxColumns) (short : length s ≤ maxInput) where
   is-mapped : m ≡ mapped (mapJob s (maxRows * maxColumns))
   is-mapped = a .answer ∙ ap (λ (n : ℕ). mapped (mapJob s n)) room
 
@@ -75,7 +74,7 @@ module _ (s : List ℕ) (size : ℕ) (after : List ℕ) (m : Mapped) (a : outcom
   pub mapped-said :
       (n : ℕ) (r : Printed) (out : List ℕ)
       → m .refusal .number ≡ 0
-      → Answered (print (m .head) after n) n r out
+      → Answered (print (m .head) after n) printed (λ (t : List ℕ). t) n r out
       → Said n (mapProgram s) (r .length) out
   unfolding mapped refusalOf valueOf bufferOf
   mapped-said n r out h p =
@@ -96,7 +95,7 @@ module _
     (x : Crossbar)
     (codes setting after : List ℕ)
     (r : Lighted)
-    (a : Promised (light x codes setting (maxRows + maxColumns)) lighted (λ a. a .wires) (maxRows + maxColumns) r after)
+    (a : Answered (light x codes setting (maxRows + maxColumns)) lighted (λ a. a .wires) (maxRows + maxColumns) r after)
   where
     abbrev lit : Outcome Lit
     lit = light x codes setting (maxRows + maxColumns)
@@ -106,7 +105,7 @@ module _
 
     pub lit-refused :
         (r .refusal .number ≡ 0 → ⊥)
-        → refusedLine (r .refusal .number) (r .refusal .line) ≡ printed (lightAndRead setting (record { head = x; codes = codes }))
+        → refusedLine (r .refusal .number) (r .refusal .line) ≡ programText (lightAndRead setting (record { head = x; codes = codes }))
     unfolding lighted refusalOf
     lit-refused h = rw is-lighted (light-refused x codes setting (λ (e : numberOf lit ≡ 0). h (rw is-lighted e)))
 
@@ -119,7 +118,7 @@ module _
 
     pub lit-prints :
         r .refusal .number ≡ 0
-        → readings x (record { count = r .rounds; wires = after }) ≡ printed (lightAndRead setting (record { head = x; codes = codes }))
+        → readings x (record { count = r .rounds; wires = after }) ≡ programText (lightAndRead setting (record { head = x; codes = codes }))
     unfolding lighted valueOf bufferOf
     lit-prints h =
         let d = found h in
@@ -158,7 +157,7 @@ module _
     (n : ℕ)
     (after : List ℕ)
     (r : Loaded)
-    (a : Handed (loadAt 2 (linesOf (drop (end + 1) s)) n) n r after)
+    (a : Answered (loadAt 2 (linesOf (drop (end + 1) s)) n) loaded (λ (w : Whole). w .codes) n r after)
     (room : n ≡ maxRows * maxColumns)
   where
     abbrev rest : List ℕ
@@ -167,31 +166,31 @@ module _
     abbrev loads : Outcome Whole
     loads = loadAt 2 (linesOf rest) (maxRows * maxColumns)
 
-    is-loaded : r ≡ loadedOf loads
-    is-loaded = a .answer ∙ ap (λ (n : ℕ). loadedOf (loadAt 2 (linesOf rest) n)) room
+    is-loaded : r ≡ loaded loads
+    is-loaded = a .answer ∙ ap (λ (n : ℕ). loaded (loadAt 2 (linesOf rest) n)) room
 
-    prints : printed (loadFrom 2 (linesOf rest) then λ y. lightAndRead vs (whole y)) ≡ lightProgram s
+    prints : programText (loadFrom 2 (linesOf rest) then λ y. lightAndRead vs (whole y)) ≡ lightProgram s
     prints = rw ends (set .prints)
 
     pub loaded-refused : (r .refusal .number ≡ 0 → ⊥) → refusedLine (r .refusal .number) (r .refusal .line) ≡ lightProgram s
-    unfolding loadedOf refusalOf
+    unfolding loaded refusalOf
     loaded-refused h =
         rw is-loaded (load-refused rest 2 (λ y. lightAndRead vs (whole y)) (λ (e : numberOf loads ≡ 0). h (rw is-loaded e)) ∙ prints)
 
     pub loaded-prints :
         r .refusal .number ≡ 0
-        → printed (lightAndRead vs (record { head = r .head; codes = after })) ≡ lightProgram s
-    unfolding loadedOf refusalOf valueOf bufferOf printed _then_
+        → programText (lightAndRead vs (record { head = r .head; codes = after })) ≡ lightProgram s
+    unfolding loaded refusalOf valueOf bufferOf programText _then_
     loaded-prints h =
         let z : numberOf loads ≡ 0 = rw is-loaded at h in
         let d = load-done rest 2 z in
         let e : loads ≡ done (whole (d .0)) = d .2 in
-        let head : r .head ≡ recordOf (d .0) = ap (λ (q : Loaded). q .head) (is-loaded ∙ ap loadedOf e) in
+        let head : r .head ≡ recordOf (d .0) = ap (λ (q : Loaded). q .head) (is-loaded ∙ ap loaded e) in
         let codes : after ≡ padded (maxRows * maxColumns) (cellsOf (d .0)) =
         a .buffer
         ∙ ap (λ (k : ℕ). bufferOf k (λ w. w .codes) (loadAt 2 (linesOf rest) k)) room
         ∙ ap (bufferOf (maxRows * maxColumns) (λ w. w .codes)) e
         in
         light-loaded vs (d .0) (maxRows * maxColumns) (r .head) after head codes
-        ∙ ap (λ (o : Outcome Listed). printed (o then λ y. lightAndRead vs (whole y))) (sym (d .1))
+        ∙ ap (λ (o : Outcome Listed). programText (o then λ y. lightAndRead vs (whole y))) (sym (d .1))
         ∙ prints

@@ -20,7 +20,7 @@ use Rattle.conduction.specs.Light.{Lit, light}
 use Rattle.listings.specs.Listing.{listing}
 use Rattle.listings.specs.Loading.{Listed, loadFrom, recordOf, cellsOf}
 use Rattle.listings.proofs.Lengths.{five-most, end-most, listing-most}
-use Rattle.programs.specs.Programs.{printed, inputFits, mapProgram, setLine, readsLines, readings, lightAndRead, lightProgram}
+use Rattle.programs.specs.Programs.{programText, inputFits, mapProgram, setLine, readsLines, readings, lightAndRead, lightProgram}
 use Rattle.programs.specs.Texts.{wholeOrNone}
 use Rattle.programs.proofs.Printing.{map-maps, light-outputs}
 use Rattle.programs.proofs.Texts.{whole-fits}
@@ -56,15 +56,15 @@ readings-most x a h =
     simp length-append (omega (arith, end-most))
 
 -- a refusal, or a text that is done
-printed-most : (o : Outcome (List ℕ)) → ((t : List ℕ) → o ≡ done t → length t ≤ maxText) → length (printed o) ≤ maxText
-unfolding printed maxText maxRows maxColumns
-printed-most (done t) h = h t refl
-printed-most (refused k n) h = omega (arith, refused-most k n)
+program-text-most : (o : Outcome (List ℕ)) → ((t : List ℕ) → o ≡ done t → length t ≤ maxText) → length (programText o) ≤ maxText
+unfolding programText maxText maxRows maxColumns
+program-text-most (done t) h = h t refl
+program-text-most (refused k n) h = omega (arith, refused-most k n)
 
 -- the first program
 pub map-most : (s : List ℕ) → length (mapProgram s) ≤ maxText
 unfolding mapProgram inputFits
-map-most s = printed-most (inputFits s (mapJob s (maxRows * maxColumns) then λ w. done (listing (w .head) (w .codes)))) at-most
+map-most s = program-text-most (inputFits s (mapJob s (maxRows * maxColumns) then λ w. done (listing (w .head) (w .codes)))) at-most
   where
     at-most :
         (t : List ℕ)
@@ -91,7 +91,7 @@ light-read-most setting w t h =
 pub light-most : (s : List ℕ) → length (lightProgram s) ≤ maxText
 unfolding lightProgram inputFits
 light-most s =
-    printed-most (inputFits s (setLine (linesOf s) then λ o. loadFrom 2 (o .later) then follow o)) at-most
+    program-text-most (inputFits s (setLine (linesOf s) then λ o. loadFrom 2 (o .later) then follow o)) at-most
   where
     follow : Taken → Listed → Outcome (List ℕ)
     follow o x = lightAndRead (o .vals) (record { head = recordOf x; codes = cellsOf x })

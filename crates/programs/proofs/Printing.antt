@@ -11,7 +11,7 @@ use lib.ListN.{length, getD, take, drop, length-append, length-replicate}
 use borrow.Author.Tests.{lt-ltb, le-ltb}
 use Rattle.common.specs.Limits.{maxRows, maxColumns, maxSwitches, maxOutputs, maxInput}
 use Rattle.common.specs.Lists.{zeros, padded}
-use Rattle.common.specs.Outcome.{Outcome, done, refused, _then_, lowest, unless, numberOf, lineOf, refusalOf, valueOf, bufferOf}
+use Rattle.common.specs.Outcome.{Outcome, done, refused, _then_, lowest, unless, numberOf, lineOf, refusalOf, valueOf, bufferOf, Answered}
 use Rattle.common.proofs.Lists.{below-or-not}
 use Rattle.common.proofs.Outcome.{then-done, unless-done}
 use Rattle.figures.specs.Line.{Lines, left, _⏎_, linesOf, afterFirst, lineEnd}
@@ -35,13 +35,13 @@ use Rattle.conduction.specs.Light.{Lit, joined, litBy, light}
 use Rattle.conduction.proofs.Light.{light-answers}
 use Rattle.listings.specs.declared.printing.Printed.{Printed}
 use Rattle.listings.specs.Listing.{listing, print}
-use Rattle.listings.specs.Printing.{printedOf, Answered}
+use Rattle.listings.specs.Printing.{printed}
 use Rattle.listings.specs.Loading.{Listed, loadEnd, loadOuts, loadCells, cellFault, withCell, loadFrom, recordOf, cellsOf, loadAt}
 use Rattle.listings.proofs.Answers.{print-long, print-fits, outputs-in}
 use Rattle.listings.proofs.Loaded.{told}
 use Rattle.listings.proofs.Printed.{in-range}
 use Rattle.listings.proofs.RoundTrip.{sound-zeros, print-zeros}
-use Rattle.programs.specs.Programs.{printed, inputFits, mapProgram, setLine, readsLines, readings, lightAndRead, lightProgram}
+use Rattle.programs.specs.Programs.{programText, inputFits, mapProgram, setLine, readsLines, readings, lightAndRead, lightProgram}
 use Rattle.programs.specs.Setting.{setFound, noSet, setOf}
 use Rattle.programs.specs.Texts.{Said}
 use Rattle.programs.proofs.Texts.{whole-fits, said-nothing}
@@ -55,14 +55,14 @@ refusedLine k n = line refusedForm (k ∷ n ∷ [])
 pub refused-then :
     {A : Type 0} (o : Outcome A) (f : A → Outcome (List ℕ))
     → (numberOf o ≡ 0 → ⊥)
-    → refusedLine (numberOf o) (lineOf o) ≡ printed (o then f)
-unfolding refusedLine printed _then_ numberOf lineOf
+    → refusedLine (numberOf o) (lineOf o) ≡ programText (o then f)
+unfolding refusedLine programText _then_ numberOf lineOf
 refused-then (done a) f h = absurd (h refl)
 refused-then (refused k n) f h = refl
 
 -- the first step of both programs
-pub input-long : (s : List ℕ) (rest : Outcome (List ℕ)) → maxInput < length s → refusedLine 14 0 ≡ printed (inputFits s rest)
-unfolding refusedLine printed inputFits lowest unless
+pub input-long : (s : List ℕ) (rest : Outcome (List ℕ)) → maxInput < length s → refusedLine 14 0 ≡ programText (inputFits s rest)
+unfolding refusedLine programText inputFits lowest unless
 input-long s rest h = rw (lt-ltb maxInput (length s) h)
 
 input-fits : (s : List ℕ) (rest : Outcome (List ℕ)) → length s ≤ maxInput → inputFits s rest ≡ rest
@@ -112,25 +112,25 @@ module _ (s : List ℕ) (short : length s ≤ maxInput) where
   map-refused h = rw (input-fits s _ short) (refused-then (mapJob s (maxRows * maxColumns)) _ h)
 
   pub map-prints : (w : Whole) → mapJob s (maxRows * maxColumns) ≡ done w → listing (w .head) (w .codes) ≡ mapProgram s
-  unfolding mapProgram printed _then_
+  unfolding mapProgram programText _then_
   map-prints w h = rw (input-fits s _ short, h)
 
 -- what print hands over for a sound crossbar is its listing
 pub said-printed :
     (x : Crossbar) (codes : List ℕ) (room : ℕ) (r : Printed) (out : List ℕ)
     → sound x codes ≡ true
-    → Answered (print x codes room) room r out
+    → Answered (print x codes room) printed (λ (t : List ℕ). t) room r out
     → Said room (listing x codes) (r .length) out
-unfolding printedOf refusalOf valueOf bufferOf
+unfolding printed refusalOf valueOf bufferOf
 said-printed x codes room r out h a =
     ⊎-elim
     (λ (long : room < length (listing x codes)).
     let e = print-long x codes room h long in
-    let n : r .length ≡ 0 = ap (λ (p : Printed). p .length) (a .answer ∙ ap printedOf e) in
+    let n : r .length ≡ 0 = ap (λ (p : Printed). p .length) (a .answer ∙ ap printed e) in
     rw n (said-nothing room out (listing x codes) long (a .buffer ∙ rw e)))
     (λ (fits : length (listing x codes) ≤ room).
     let e = print-fits x codes room h fits in
-    let n : r .length ≡ length (listing x codes) = ap (λ (p : Printed). p .length) (a .answer ∙ ap printedOf e) in
+    let n : r .length ≡ length (listing x codes) = ap (λ (p : Printed). p .length) (a .answer ∙ ap printed e) in
     let g = whole-fits room (listing x codes) fits in
     record { count = rw g n; bytes = rw g (a .buffer ∙ rw e) })
     (below-or-not room (length (listing x codes)))
@@ -139,7 +139,7 @@ said-printed x codes room r out h a =
 pub said-mapped :
     (w : Whole) (room more : ℕ) (r : Printed) (out : List ℕ)
     → Maps w
-    → Answered (print (w .head) (padded more (w .codes)) room) room r out
+    → Answered (print (w .head) (padded more (w .codes)) room) printed (λ (t : List ℕ). t) room r out
     → Said room (listing (w .head) (w .codes)) (r .length) out
 unfolding padded
 said-mapped w room more r out m a =
@@ -191,7 +191,7 @@ module _ (x : Crossbar) (codes setting : List ℕ) where
 
   pub light-refused :
       (numberOf lit ≡ 0 → ⊥)
-      → refusedLine (numberOf lit) (lineOf lit) ≡ printed (lightAndRead setting (record { head = x; codes = codes }))
+      → refusedLine (numberOf lit) (lineOf lit) ≡ programText (lightAndRead setting (record { head = x; codes = codes }))
   unfolding lightAndRead
   light-refused h = refused-then lit _ h
 
@@ -206,8 +206,8 @@ module _ (x : Crossbar) (codes setting : List ℕ) where
       (a b : Lit)
       → lit ≡ done a
       → b ≡ lit-padded a (maxRows + maxColumns)
-      → readings x b ≡ printed (lightAndRead setting (record { head = x; codes = codes }))
-  unfolding lightAndRead printed _then_
+      → readings x b ≡ programText (lightAndRead setting (record { head = x; codes = codes }))
+  unfolding lightAndRead programText _then_
   light-prints a b h e = rw (h, e) (readings-padded x a (maxRows + maxColumns))
 
   -- zeros past the codes
@@ -274,15 +274,15 @@ module _ (t : List ℕ) (n : ℕ) where
       (f : Listed → Outcome (List ℕ))
       → (numberOf (loadAt n (linesOf t) (maxRows * maxColumns)) ≡ 0 → ⊥)
       → refusedLine (numberOf (loadAt n (linesOf t) (maxRows * maxColumns))) (lineOf (loadAt n (linesOf t) (maxRows * maxColumns)))
-      ≡ printed (loadFrom n (linesOf t) then f)
-  unfolding refusedLine printed _then_ numberOf lineOf
+      ≡ programText (loadFrom n (linesOf t) then f)
+  unfolding refusedLine programText _then_ numberOf lineOf
   load-refused f h = by (loadFrom n (linesOf t)) refl
     where
       by :
           (o : Outcome Listed)
           → loadFrom n (linesOf t) ≡ o
           → refusedLine (numberOf (loadAt n (linesOf t) (maxRows * maxColumns))) (lineOf (loadAt n (linesOf t) (maxRows * maxColumns)))
-          ≡ printed (loadFrom n (linesOf t) then f)
+          ≡ programText (loadFrom n (linesOf t) then f)
       by (done y) e = absurd (h (ap numberOf (load-fits y e)))
       by (refused k l) e = rw e
 
@@ -315,14 +315,14 @@ module _ (s : List ℕ) (short : length s ≤ maxInput) where
   follow vs y = lightAndRead vs (whole y)
 
   pub set-refused : setOf (setLine (linesOf s)) .ok ≡ false → refusedLine 1 1 ≡ lightProgram s
-  unfolding lightProgram refusedLine printed _then_ setOf setFound
+  unfolding lightProgram refusedLine programText _then_ setOf setFound
   set-refused h =
       ⊎-elim
       (λ (d : (o : Taken) × (setLine (linesOf s) ≡ done o) × (o .later ≡ afterFirst (linesOf s))).
       let e : setOf (setLine (linesOf s)) .ok ≡ true = rw (d .1) in
       absurd (let z : _≡_ {A = ℕ} 0 1 = cc in omega arith))
       (λ (d : setLine (linesOf s) ≡ refused 1 1).
-      sym (ap printed (input-fits s _ short ∙ ap (λ (o : Outcome Taken). o then λ o. loadFrom 2 (o .later) then follow (o .vals)) d)))
+      sym (ap programText (input-fits s _ short ∙ ap (λ (o : Outcome Taken). o then λ o. loadFrom 2 (o .later) then follow (o .vals)) d)))
       (set-told (linesOf s))
 
   -- the figures, and the lines of the listing
@@ -330,7 +330,7 @@ module _ (s : List ℕ) (short : length s ≤ maxInput) where
     pub is : setOf (setLine (linesOf s)) ≡ setFound vs
     pub few : length vs ≤ maxSwitches
     pub ended : lineEnd s 0 < length s
-    pub prints : printed (loadFrom 2 (linesOf rest) then follow vs) ≡ lightProgram s
+    pub prints : programText (loadFrom 2 (linesOf rest) then follow vs) ≡ lightProgram s
 
   set-ended : (o : Taken) → setLine (linesOf s) ≡ done o → lineEnd s 0 < length s
   unfolding setLine
@@ -358,7 +358,7 @@ module _ (s : List ℕ) (short : length s ≤ maxInput) where
           ended = b;
           prints =
               sym
-              (ap printed
+              (ap programText
               (input-fits s _ short
               ∙ ap (λ (o : Outcome Taken). o then λ o. loadFrom 2 (o .later) then follow (o .vals)) (d .1)
               ∙ ap (λ (ls : Lines). loadFrom 2 ls then follow (o .vals)) later));
@@ -374,5 +374,5 @@ pub light-loaded :
     (vs : List ℕ) (y : Listed) (n : ℕ) (x : Crossbar) (codes : List ℕ)
     → x ≡ recordOf y
     → codes ≡ padded n (cellsOf y)
-    → printed (lightAndRead vs (record { head = x; codes = codes })) ≡ printed (lightAndRead vs (whole y))
-light-loaded vs y n x codes e f = rw (e, f) (ap printed (light-padded (recordOf y) (cellsOf y) vs n (cells-long y)))
+    → programText (lightAndRead vs (record { head = x; codes = codes })) ≡ programText (lightAndRead vs (whole y))
+light-loaded vs y n x codes e f = rw (e, f) (ap programText (light-padded (recordOf y) (cellsOf y) vs n (cells-long y)))

@@ -19,10 +19,10 @@ use Rattle.conduction.specs.Light.{Lit, light}
 use Rattle.listings.specs.Listing.{listing}
 use Rattle.listings.specs.Loading.{loadFrom, recordOf, cellsOf}
 
--- what is printed: the answer's text, or `(refused n line)`
-unfoldable pub printed : Outcome (List ℕ) → List ℕ
-printed (done s) = s
-printed (refused k n) = line refusedForm (k ∷ n ∷ [])
+-- what a program prints: the answer's text, or `(refused n line)`
+unfoldable pub programText : Outcome (List ℕ) → List ℕ
+programText (done s) = s
+programText (refused k n) = line refusedForm (k ∷ n ∷ [])
 
 -- what is to follow, unless the input is too long: "In both programs input above 65,535 bytes is `(refused 14 0)`."
 unfoldable pub inputFits : List ℕ → Outcome (List ℕ) → Outcome (List ℕ)
@@ -30,7 +30,7 @@ inputFits s rest = unless (lowest ((14 when ltb maxInput (length s)) ∷ [])) 0 
 
 -- "The first reads a job from standard input and prints the listing, or `(refused n line)`."
 unfoldable pub mapProgram : List ℕ → List ℕ
-mapProgram s = printed (inputFits s (mapJob s (maxRows * maxColumns) then λ w. done (listing (w .head) (w .codes))))
+mapProgram s = programText (inputFits s (mapJob s (maxRows * maxColumns) then λ w. done (listing (w .head) (w .codes))))
 
 -- how many blanks (byte 32) a line has
 unfoldable pub blanks : List ℕ → ℕ
@@ -68,7 +68,7 @@ lightAndRead setting w =
 -- is line 2
 unfoldable pub lightProgram : List ℕ → List ℕ
 lightProgram s =
-    printed
+    programText
     (inputFits s
     (setLine (linesOf s)
     then λ o. loadFrom 2 (o .later) then λ x. lightAndRead (o .vals) (record { head = recordOf x; codes = cellsOf x })))

@@ -15,7 +15,7 @@ use readings::print_readings;
 use readings::refuse;
 use setting::set_line;
 ghost use lib.ListN.{length};
-ghost use Rattle.programs.specs.Programs.{printed, mapProgram, lightAndRead, lightProgram};
+ghost use Rattle.programs.specs.Programs.{programText, mapProgram, lightAndRead, lightProgram};
 ghost use Rattle.programs.specs.Texts.{Said};
 
 // Document 01, "Two programs": "The first reads a job from standard input and prints the listing, or `(refused n line)`."
@@ -46,7 +46,7 @@ pub fn map_text(input: &[u8], out: &mut [u8]) -> usize
 fn light_and_read(x: Crossbar, cells: &[u8], setting: &[u8], out: &mut [u8]) -> usize
     ensures { λ r.
         ⌜ Said (length (now (out .entry)))
-        (printed (lightAndRead (now (setting .entry)) (record { head = x; codes = now (cells .entry) })))
+        (programText (lightAndRead (now (setting .entry)) (record { head = x; codes = now (cells .entry) })))
         r
         (now (out .exit)) ⌝ }
 {

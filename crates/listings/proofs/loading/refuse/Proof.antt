@@ -4,7 +4,7 @@ use mathlib.Core.Path.{refl}
 use Rattle.common.specs.Limits.{maxOutputs}
 use Rattle.common.specs.Outcome.{refusalOf, numberOf, lineOf, valueOf, bufferOf}
 use Rattle.cells.specs.Record.{no-record}
-use Rattle.listings.specs.Loader.{loadedOf}
+use Rattle.listings.specs.Loader.{loaded}
 use Rattle.listings.proofs.loading.refuse.Statement.{statement}
 use Rattle.listings.proofs.loading.refuse.Tie as tie
 
@@ -15,7 +15,7 @@ same-length : tie.Need-same-length
 same-length c = search needs
 
 returns : tie.Need-returns
-unfolding loadedOf refusalOf numberOf lineOf valueOf bufferOf no-record maxOutputs
+unfolding loaded refusalOf numberOf lineOf valueOf bufferOf no-record maxOutputs
 returns c = record { answer = refl; buffer = c .before .before .clear .ensures }
 
 pub refuse-spec : {M : Type 1} → statement M
