@@ -125,14 +125,6 @@ module _ (m n : ℕ) (joined : ℕ → ℕ → Bool) where
       (λ (a : Across v u). (a .column-below, omega (arith, a .row-below)))
       (meets-is u v h)
 
-  -- two wires that do not meet
-  pub meets-not : (u v : ℕ) → (Across u v → ⊥) → (Across v u → ⊥) → meets m n joined u v ≡ false
-  meets-not u v f g =
-      ⊎-elim
-      (λ (e : meets m n joined u v ≡ true). absurd (⊎-elim f g (meets-is u v e)))
-      (λ e. e)
-      (by-test (meets m n joined u v))
-
   -- whether a wire is joined to a lit one, over all places
   unfoldable touched : List ℕ → ℕ → Bool
   touched set v = some-below (m + n) (λ u. meets m n joined u v && lit set u)
@@ -408,7 +400,7 @@ module _ (m n : ℕ) (joined : ℕ → ℕ → Bool) where
     tells (suc t) =
         tells-more t (stampsAfter k m n joined t) (rounds m n joined t) (rw (length-stamps t) room) (tells t)
 
-    -- "a round adds nothing": the stamps stay as they are just where the rounds are at rest
+    -- a round that adds nothing: the stamps stay as they are just where the rounds are at rest
     stamps-rest : (t : ℕ) → atRest m n joined t ≡ true → stampsAfter k m n joined t ≡ stampsAfter k m n joined (suc t)
     unfolding stampsAfter
     stamps-rest t h =

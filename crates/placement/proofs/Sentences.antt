@@ -9,7 +9,7 @@ use lib.Dec.{eqb}
 use borrow.Author.Tests.{eqb-true, eq-eqb, ne-eqb}
 use Rattle.common.specs.Lists.{bit}
 use Rattle.common.proofs.Lists.{and-left, and-right, and-both, or-cases, by-test, true-or-false, equal-or-not, below-or-not, getD-grid}
-use Rattle.cells.specs.declared.Cell.the-variants.{Off, Yes, No}
+use Rattle.cells.specs.declared.Cell.the-variants.{Off, On, Yes, No}
 use Rattle.cells.specs.Code.{codeOf}
 use Rattle.diagram.specs.Diagram.{Diagram, idCount, entry, entries, terminal, switchAt, lowAt, highAt, labelAt}
 use Rattle.diagram.specs.Faults.{alike}
@@ -157,8 +157,7 @@ module _ (d : Diagram) where
   both-row i b = (rw b, rw b)
 
   -- "A `b` label has an on cell where its own row and column meet."
-  pub both-on : (i : ℕ) → i < idCount d → labelAt d i ≡ 3 → codeAt d (rowOf d i) (columnOf d i) ≡ 1
-  unfolding codeOf
+  pub both-on : (i : ℕ) → i < idCount d → labelAt d i ≡ 3 → codeAt d (rowOf d i) (columnOf d i) ≡ codeOf On
   both-on i most b =
       let wires = both-row i b in
       code-meeting i i (wires .0) most (wires .1) most ∙ ap codeOf (meeting-same d i (row-not-zero d i (wires .0)))

@@ -56,6 +56,7 @@ module _ (d : Diagram) (facts : Facts d) where
   literal-most i true e = omega (arith, facts .node i (e .least) (e .most) .tests)
 
   placed-most : (r c : ℕ) → CellStands d r c → codeAt d r c ≤ 1 + 2 * d .switches
+  unfolding codeOf
   placed-most r c (own i most b at-row at-column code) = omega arith
   placed-most r c (step i side e at-row at-column code) = rw code (literal-most i side e)
 

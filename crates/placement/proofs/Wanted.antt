@@ -87,7 +87,7 @@ module _ (d : Diagram) (facts : Facts d) (room : ℕ) (fits : rowCount d * colum
       → i < idCount d
       → labelAt d i ≡ 3
       → (ownPlace d i < length (padded room (cells d))) × (getD (padded room (cells d)) (ownPlace d i) 0 ≡ 1)
-  unfolding ownPlace hasRow hasColumn
+  unfolding ownPlace hasRow hasColumn codeOf
   label-in i most b =
       let row : hasRow d i ≡ true = rw b in
       let column : hasColumn d i ≡ true = rw b in

@@ -8,7 +8,7 @@ use lib.Dec.{eqb}
 use Rattle.common.specs.Labels.{labelB}
 use Rattle.common.specs.Lists.{bit}
 use Rattle.cells.specs.declared.Cell.{Cell}
-use Rattle.cells.specs.declared.Cell.the-variants.{Yes, No}
+use Rattle.cells.specs.declared.Cell.the-variants.{On, Yes, No}
 use Rattle.cells.specs.Code.{codeOf}
 use Rattle.diagram.specs.Diagram.{Diagram, idCount, switchAt, lowAt, highAt, labelAt}
 use Rattle.diagram.specs.Wires.{hasRow, hasColumn, owners, rowOwners, rowOf, columnOf, namesZero, rowCount, columnCount}
@@ -45,7 +45,7 @@ pub record IsEdge (d : Diagram) (i : ℕ) (side : Bool) : Type 0 where
 
 -- what stands at row r and column c where the cell there is not off: the on cell of a `b` label, or the literal of an edge
 pub data CellStands (d : Diagram) (r c : ℕ) : Type 0 where
-  own : (i : ℕ) → i < idCount d → labelAt d i ≡ labelB → r ≡ rowOf d i → c ≡ columnOf d i → codeAt d r c ≡ 1 → CellStands d r c
+  own : (i : ℕ) → i < idCount d → labelAt d i ≡ labelB → r ≡ rowOf d i → c ≡ columnOf d i → codeAt d r c ≡ codeOf On → CellStands d r c
   step :
       (i : ℕ) (side : Bool)
       → IsEdge d i side
@@ -74,7 +74,7 @@ pub record Sentences (d : Diagram) : Type 0 where
   -- "So R rows plus C columns equal N + 1, plus the number of `b` labels (terminal 1's included), plus 1 if an output names 0."
   pub wires-count : rowCount d + columnCount d ≡ length (d .nodes) + 1 + bothCount d + bit (namesZero d)
   -- "A `b` label has an on cell where its own row and column meet."
-  pub both-on : (i : ℕ) → i < idCount d → labelAt d i ≡ labelB → codeAt d (rowOf d i) (columnOf d i) ≡ 1
+  pub both-on : (i : ℕ) → i < idCount d → labelAt d i ≡ labelB → codeAt d (rowOf d i) (columnOf d i) ≡ codeOf On
   -- "The edge from parent to child is `no X` for L and `yes X` for H." It stands at a place of the crossbar, and where the parent's row and the
   -- child's column do not both exist, the child's row and the parent's column do
   pub edge-placed :
