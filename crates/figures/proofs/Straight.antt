@@ -7,9 +7,7 @@ use mathlib.Core.List.{List}
 use native.Mathlib.Omega.{arith}
 use lib.ListN.{length, getD}
 use Rattle.common.proofs.Lists.{by-test}
-use Rattle.figures.specs.declared.Figure.{Figure}
 use Rattle.figures.specs.declared.Figure.the-variants.{At, Missing}
-use Rattle.figures.specs.declared.Past.{Past}
 use Rattle.figures.specs.Figure.{isDigit}
 use Rattle.figures.specs.Position.{figureAt}
 use Rattle.figures.specs.Past.{nowhere, pastOf, digitValue, figurePast}

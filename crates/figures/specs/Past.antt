@@ -23,9 +23,9 @@ unfoldable pub pastOf : Figure → Past
 pastOf Missing = record { value = 0; next = nowhere }
 pastOf (At v n) = record { value = v; next = n }
 
+unfoldable pub figurePast : List ℕ → ℕ → Past
+figurePast s at = pastOf (figureAt s at)
+
 -- the value of the digit that a byte writes, or 10 where it is no digit
 unfoldable pub digitValue : ℕ → ℕ
 digitValue b = elim (isDigit b) [ true ↦ b - 48 | false ↦ 10 ]
-
-unfoldable pub figurePast : List ℕ → ℕ → Past
-figurePast s at = pastOf (figureAt s at)
