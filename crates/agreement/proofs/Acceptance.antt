@@ -20,7 +20,7 @@ use Rattle.listings.specs.Listing.{listing, print}
 use Rattle.listings.specs.Loading.{load}
 use Rattle.listings.proofs.Loaded.{load-done, loaded-text, loaded-outs}
 use Rattle.listings.proofs.Printed.{load-listing}
-use Rattle.listings.proofs.RoundTrip.{print-sound}
+use Rattle.listings.proofs.Answers.{print-fits}
 use Rattle.crossbar.specs.Bytes.{recordLength, recordFrom, holdsRecord}
 use Rattle.crossbar.specs.Host.{forRecord, ofRecord, hostMap, hostLoad, hostLight, hostPrint}
 use Rattle.crossbar.proofs.Parts.{calls-read}
@@ -113,7 +113,7 @@ print-done head cells room = (
       }),
   (λ given.
       let x = recordFrom head in
-      (listing x cells, one-held head _ (given .holds) ∙ print-sound x cells room (given .right) (given .text-room))),
+      (listing x cells, one-held head _ (given .holds) ∙ print-fits x cells room (given .right) (given .text-room))),
 )
 
 load-is-done : (text : List ℕ) (n m : ℕ) → Done (hostLoad text n m) ↔ Loadable text n m

@@ -4,13 +4,13 @@ use mathlib.Core.Path.{_≡_, sym, ap, _∙_}
 use mathlib.Core.Logic.{_↔_, Iff·trans, Iff·symm}
 use mathlib.Core.Bool.{true}
 use mathlib.Core.List.{List, []}
-use lib.ListN.{length, getD}
+use lib.ListN.{length, getD, take}
 use lib.Dec.{ltb}
 use borrow.Author.Tests.{ltb-false}
 use Rattle.common.specs.Limits.{maxOutputs}
 use Rattle.common.specs.Lists.{padded}
 use Rattle.common.specs.Outcome.{done, bufferOf}
-use Rattle.common.proofs.Lists.{getD-padded-any, length-padded}
+use Rattle.common.proofs.Lists.{getD-padded-any, length-padded, take-padded}
 use Rattle.common.proofs.Outcome.{then-done, unless-done, not-met}
 use Rattle.cells.specs.declared.Crossbar.{Crossbar}
 use Rattle.cells.specs.Record.{Whole, size}
@@ -26,12 +26,12 @@ use Rattle.crossbar.specs.Bytes.{recordLength, recordBytes, recordFrom}
 use Rattle.crossbar.specs.Host.{forRecord, hostMap, hostLight, MapCall, LightCall, WalkCall}
 use Rattle.crossbar.specs.Parts.{numberPart, lowPart}
 use Rattle.crossbar.proofs.Parts.{calls-read}
-use Rattle.crossbar.proofs.Records.{record-written}
+use Rattle.crossbar.proofs.Records.{length-record, record-written}
 use Rattle.crossbar.proofs.ReadBack.{for-record-long, light-written}
 use Rattle.agreement.specs.Demand3.{Demand3, Reads, Tells, standsOn}
-use Rattle.agreement.specs.Calls.{inBuffers, BuffersAgree, CallsAgree, Demand3OfCalls}
+use Rattle.agreement.specs.Calls.{inBuffers, Holds, BuffersAgree, CallsAgree, Demand3OfCalls}
 use Rattle.agreement.proofs.Demand3.{demand-3}
-use Rattle.agreement.proofs.Slices.{joined-same}
+use Rattle.conduction.proofs.Slices.{joined-same}
 
 -- what tells one statement tells an equivalent one
 tells-same : (b : ℕ) (P Q : Type 0) → P ↔ Q → Tells b P → Tells b Q
@@ -54,6 +54,54 @@ module _ (text : List ℕ) (d : Diagram) (taken : accepted text ≡ done d) wher
   codes-all : length (whole .codes) ≡ size (whole .head)
   codes-all = rw (claim .placed) (cells-count d)
 
+  -- light, given slices of any length that hold the crossbar
+  module _ (n m : ℕ) (long : recordLength ≤ n) (fits : size (whole .head) ≤ m) where
+    abbrev record-slice : List ℕ
+    record-slice = padded n (recordBytes (whole .head))
+
+    abbrev cells-slice : List ℕ
+    cells-slice = padded m (whole .codes)
+
+    light-is : (setting : List ℕ) (room : ℕ) → hostLight record-slice cells-slice setting room ≡ light (whole .head) cells-slice setting room
+    light-is setting room = light-written (whole .head) outs-all n long cells-slice setting room
+
+    lit-by :
+        (setting before : List ℕ) (answer : ℕ) (after : List ℕ)
+        → LightCall record-slice cells-slice setting before answer after
+        → numberPart answer ≡ 0
+        → (a : Lit) × (light (whole .head) cells-slice setting (length before) ≡ done a) × (after ≡ padded (length before) (a .wires))
+    unfolding bufferOf
+    lit-by setting before answer after kept none =
+        let room = length before in
+        let found = calls-read .of-light record-slice cells-slice setting room .none-refused .0 (rw (kept .answer) at none) in
+        let a = found .0 in
+        (a, sym (light-is setting room) ∙ found .1, kept .buffer ∙ ap (bufferOf room (λ (x : Lit). x .wires)) (found .1))
+
+    shown-whole :
+        (setting before : List ℕ) (answer : ℕ) (after : List ℕ) (j : ℕ)
+        → LightCall record-slice cells-slice setting before answer after
+        → numberPart answer ≡ 0
+        → j < length (d .outs)
+        → Tells (getD after (standsOn whole j) 0) (Reads whole setting j)
+    shown-whole setting before answer after j kept none h =
+        let lit = lit-by setting before answer after kept none in
+        let a = lit .0 in
+        let byte : getD after (standsOn whole j) 0 ≡ getD (a .wires) (standsOn whole j) 0 =
+        ap (λ (q : List ℕ). getD q (standsOn whole j) 0) (lit .2)
+        ∙ getD-padded-any (length before) (a .wires) (standsOn whole j) in
+        rw byte (claim .shown setting m (length before) a j fits (lit .1) h)
+
+    lights-whole :
+        (setting before : List ℕ) (answer : ℕ) (after : List ℕ)
+        → LightCall record-slice cells-slice setting before answer after
+        → isSetting (d .switches) setting ≡ true
+        → whole .head .rows + whole .head .columns ≤ length before
+        → numberPart answer ≡ 0
+    lights-whole setting before answer after kept s room =
+        let lit = claim .lights setting m (length before) fits s room in
+        rw (kept .answer)
+        (calls-read .of-light record-slice cells-slice setting (length before) .none-refused .1 (lit .0, light-is setting (length before) ∙ lit .1))
+
   module _ (n m : ℕ) (long : recordLength ≤ n) (fits : size (whole .head) ≤ m) where
     -- the buffers that map leaves
     abbrev head : List ℕ
@@ -73,21 +121,6 @@ module _ (text : List ℕ) (d : Diagram) (taken : accepted text ≡ done d) wher
     unfolding inBuffers
     reads-same setting j =
         rw (record-is, joined-same (whole .head) (whole .codes) m setting) ((λ chain. chain), (λ chain. chain))
-
-    light-is : (setting : List ℕ) (room : ℕ) → hostLight head cells setting room ≡ light (whole .head) cells setting room
-    light-is setting room = light-written (whole .head) outs-all n long cells setting room
-
-    lit-by :
-        (setting before : List ℕ) (answer : ℕ) (after : List ℕ)
-        → LightCall head cells setting before answer after
-        → numberPart answer ≡ 0
-        → (a : Lit) × (light (whole .head) cells setting (length before) ≡ done a) × (after ≡ padded (length before) (a .wires))
-    unfolding bufferOf
-    lit-by setting before answer after kept none =
-        let room = length before in
-        let found = calls-read .of-light head cells setting room .none-refused .0 (rw (kept .answer) at none) in
-        let a = found .0 in
-        (a, sym (light-is setting room) ∙ found .1, kept .buffer ∙ ap (bufferOf room (λ (x : Lit). x .wires)) (found .1))
 
     walked-by :
         (setting : List ℕ) (j answer : ℕ)
@@ -125,33 +158,70 @@ module _ (text : List ℕ) (d : Diagram) (taken : accepted text ≡ done d) wher
               (Iff·trans (one .1 (sym (stands-same i) ∙ same ∙ stands-same j) setting s) (Iff·symm (reads-same setting j)))),
         )
 
-    shown :
-        (setting before : List ℕ) (answer : ℕ) (after : List ℕ) (j : ℕ)
-        → LightCall head cells setting before answer after
-        → numberPart answer ≡ 0
-        → j < length (d .outs)
-        → Tells (getD after (standsOn (inBuffers head cells) j) 0) (Reads (inBuffers head cells) setting j)
-    shown setting before answer after j kept none h =
-        let lit = lit-by setting before answer after kept none in
-        let a = lit .0 in
-        let byte : getD after (standsOn (inBuffers head cells) j) 0 ≡ getD (a .wires) (standsOn whole j) 0 =
-        ap (λ (k : ℕ). getD after k 0) (stands-same j)
-        ∙ ap (λ (q : List ℕ). getD q (standsOn whole j) 0) (lit .2)
-        ∙ getD-padded-any (length before) (a .wires) (standsOn whole j) in
-        rw byte
-        (tells-same _ (Reads whole setting j) (Reads (inBuffers head cells) setting j) (Iff·symm (reads-same setting j))
-        (claim .shown setting m (length before) a j fits (lit .1) h))
+    -- slices that hold this crossbar, in its own terms
+    front-record : take recordLength head ≡ recordBytes (whole .head)
+    front-record = take-padded n recordLength (recordBytes (whole .head)) (length-record (whole .head) outs-all)
 
-    lights :
-        (setting before : List ℕ) (answer : ℕ) (after : List ℕ)
-        → LightCall head cells setting before answer after
-        → isSetting (d .switches) setting ≡ true
-        → recordFrom head .rows + recordFrom head .columns ≤ length before
-        → numberPart answer ≡ 0
-    lights setting before answer after kept s room =
-        let lit = claim .lights setting m (length before) fits s (rw record-is at room) in
-        rw (kept .answer)
-        (calls-read .of-light head cells setting (length before) .none-refused .1 (lit .0, light-is setting (length before) ∙ lit .1))
+    size-is : size (recordFrom head) ≡ size (whole .head)
+    size-is = ap size record-is
+
+    front-cells : take (size (recordFrom head)) cells ≡ whole .codes
+    front-cells = take-padded m (size (recordFrom head)) (whole .codes) (codes-all ∙ sym size-is)
+
+    held : Holds head cells head cells
+    held =
+        let filled-record : length head ≡ n = length-padded n (recordBytes (whole .head)) (rw (length-record (whole .head) outs-all) long) in
+        let filled-cells : length cells ≡ m = length-padded m (whole .codes) (rw codes-all fits) in
+        record {
+          record-long = rw filled-record long;
+          record-held = rw (filled-record, front-record);
+          cells-long = rw (filled-cells, size-is) fits;
+          cells-held = rw (filled-cells, front-cells);
+        }
+
+    module _ (head₁ cells₁ : List ℕ) (holds : Holds head cells head₁ cells₁) where
+      enough : size (whole .head) ≤ length cells₁
+      enough = rw size-is at (holds .cells-long)
+
+      held-call :
+          (setting before : List ℕ) (answer : ℕ) (after : List ℕ)
+          → LightCall head₁ cells₁ setting before answer after
+          → LightCall
+          (padded (length head₁) (recordBytes (whole .head)))
+          (padded (length cells₁) (whole .codes))
+          setting
+          before
+          answer
+          after
+      held-call setting before answer after kept =
+          let record-is : head₁ ≡ padded (length head₁) (recordBytes (whole .head)) =
+          holds .record-held ∙ ap (padded (length head₁)) front-record in
+          let cells-are : cells₁ ≡ padded (length cells₁) (whole .codes) =
+          holds .cells-held ∙ ap (padded (length cells₁)) front-cells in
+          rw (record-is, cells-are) at kept
+
+      shown :
+          (setting before : List ℕ) (answer : ℕ) (after : List ℕ) (j : ℕ)
+          → LightCall head₁ cells₁ setting before answer after
+          → numberPart answer ≡ 0
+          → j < length (d .outs)
+          → Tells (getD after (standsOn (inBuffers head cells) j) 0) (Reads (inBuffers head cells) setting j)
+      shown setting before answer after j kept none h =
+          let byte : getD after (standsOn (inBuffers head cells) j) 0 ≡ getD after (standsOn whole j) 0 = ap (λ (k : ℕ). getD after k 0) (stands-same j) in
+          rw byte
+          (tells-same _ (Reads whole setting j) (Reads (inBuffers head cells) setting j) (Iff·symm (reads-same setting j))
+          (shown-whole (length head₁) (length cells₁) (holds .record-long) enough setting before answer after j
+          (held-call setting before answer after kept) none h))
+
+      lights :
+          (setting before : List ℕ) (answer : ℕ) (after : List ℕ)
+          → LightCall head₁ cells₁ setting before answer after
+          → isSetting (d .switches) setting ≡ true
+          → recordFrom head .rows + recordFrom head .columns ≤ length before
+          → numberPart answer ≡ 0
+      lights setting before answer after kept s room =
+          lights-whole (length head₁) (length cells₁) (holds .record-long) enough setting before answer after
+          (held-call setting before answer after kept) s (rw record-is at room)
 
     walked :
         (setting : List ℕ) (j answer : ℕ)
@@ -167,10 +237,12 @@ module _ (text : List ℕ) (d : Diagram) (taken : accepted text ≡ done d) wher
         record {
           placed = record-is ∙ ap (λ (x : Whole). x .head) (claim .placed);
           cells-placed = cells-full;
+          stands = λ j h. stands-same j ∙ claim .stands j h;
           reading = λ setting j s h. Iff·trans (reads-same setting j) (claim .reading setting j s h);
           one-row = rows;
-          shown = shown;
-          lights = lights;
+          held = held;
+          shown = λ head₁ cells₁ setting before answer after j holds. shown head₁ cells₁ holds setting before answer after j;
+          lights = λ head₁ cells₁ setting before answer after holds. lights head₁ cells₁ holds setting before answer after;
           walked = walked;
           walks =
               λ setting j answer kept s h.

@@ -29,7 +29,7 @@ use Rattle.placement.proofs.Sound.{mapped-sound, cells-count}
 use Rattle.conduction.specs.Chain.{row, place, Within}
 use Rattle.conduction.specs.Light.{Lit, light, joined, litBy}
 use Rattle.conduction.proofs.Light.{light-answers, light-accepts}
-use Rattle.agreement.proofs.Slices.{joined-same, light-same}
+use Rattle.conduction.proofs.Slices.{joined-same, light-same}
 use Rattle.agreement.specs.Demand3.{Demand3, Reads, WalksToOne, Tells, standsOn}
 
 -- the crossbar of a diagram

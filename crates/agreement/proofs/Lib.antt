@@ -3,5 +3,4 @@ pub mod Calls
 pub mod Demand3
 pub mod Lamp
 pub mod Sheets
-pub mod Slices
 pub mod RoundTrips

@@ -3,24 +3,25 @@ use Prim.Native.Nat.{ℕ, _-_, _≤_}
 use mathlib.Core.Path.{_≡_, refl, sym, ap, _∙_}
 use mathlib.Core.Bool.{true, not}
 use mathlib.Core.List.{List, [], _++_}
-use lib.ListN.{length, take, drop}
+use lib.ListN.{length, take, drop, length-take}
 use lib.Seq.{take-at}
 use lib.Dec.{eqb, leb, ltb}
 use borrow.Author.Tests.{ltb-false, not-false}
 use Rattle.common.specs.Limits.{maxOutputs}
 use Rattle.common.specs.Lists.{padded, zeros, all-of}
 use Rattle.common.specs.Outcome.{Outcome, done, bufferOf, Answered}
-use Rattle.common.proofs.Lists.{length-tab, and-right}
+use Rattle.common.proofs.Lists.{length-tab, and-right, length-padded}
 use Rattle.common.proofs.Outcome.{then-done, unless-done, not-met}
 use Rattle.cells.specs.declared.Crossbar.{Crossbar}
 use Rattle.cells.specs.Record.{Whole, size}
+use Rattle.cells.proofs.Sizes.{sound-facts}
 use Rattle.jobs.proofs.Accepted.{accepted-job}
 use Rattle.placement.proofs.Sound.{cells-count, outs-count}
 use Rattle.conduction.specs.Light.{light}
 use Rattle.listings.specs.Listing.{print}
 use Rattle.listings.specs.Loading.{load}
 use Rattle.listings.proofs.Loaded.{loaded-text, loaded-outs}
-use Rattle.listings.proofs.Printed.{taken-padded, sound-facts}
+use Rattle.listings.proofs.Printed.{taken-padded}
 use Rattle.listings.proofs.RoundTrip.{print-done, load-printed, print-load-padded}
 use Rattle.crossbar.specs.Bytes.{recordLength, recordBytes, recordFrom, holdsRecord}
 use Rattle.crossbar.specs.Host.{packed, cellsDue, forRecord, ofRecord, hostLoad, hostLight, hostPrint, MapCall, LightCall, PrintCall, LoadCall}
@@ -31,7 +32,8 @@ use Rattle.crossbar.proofs.Records.{holds-enough}
 use Rattle.crossbar.proofs.ReadBack.{for-record-long, light-written, print-written}
 use Rattle.agreement.specs.RoundTrips.{AreBytes, Again, RoundTrips}
 use Rattle.agreement.proofs.Calls.{mapped-by}
-use Rattle.agreement.proofs.Slices.{light-same}
+use Rattle.conduction.proofs.Slices.{light-same}
+use native.Mathlib.Omega.{arith}
 
 -- a text that print left: its bytes are the first of the buffer, as many as the value says
 record Text (o : Outcome (List ℕ)) (printed : ℕ) (text : List ℕ) : Type 0 where
@@ -124,11 +126,20 @@ print-load head cells text₀ printed text head₀ cells₀ loaded head₁ cells
     let sounds = sound-facts x cells (print-done x cells (length text₀) (t .bytes) (p .1) .0) in
     let head-is : head₁ ≡ padded (length head₀) (take recordLength head) =
     back .head-is ∙ ap (padded (length head₀)) (record-again head small (holds-enough head (p .0))) in
+    let record-filled : length head₁ ≡ length head₀ = ap length head-is ∙ length-padded (length head₀) (take recordLength head) (simp length-take (omega arith)) in
+    let cells-filled : length cells₁ ≡ length cells₀ = ap length (back .cells-are) ∙ length-padded (length cells₀) (take (size x) cells) (simp length-take (omega arith)) in
     record {
       none-refused = back .none;
       value = back .low;
       same-record = head-is;
       same-cells = back .cells-are;
+      held =
+          record {
+            record-long = rw record-filled long;
+            record-held = head-is ∙ ap (λ (k : ℕ). padded k (take recordLength head)) (sym record-filled);
+            cells-long = rw cells-filled fits;
+            cells-held = back .cells-are ∙ ap (λ (k : ℕ). padded k (take (size x) cells)) (sym cells-filled);
+          };
       whole-record = λ e. head-is ∙ ap (λ (k : ℕ). padded k (take recordLength head)) e ∙ record-padded head (p .0);
       whole-cells =
           λ e.

@@ -1,13 +1,14 @@
 -- Demand 3 of the calls that a C program links. Document 01, "What an output reads", as in Demand3.antt, of what `crossbar_map`,
 -- `crossbar_light` and `crossbar_walk` answer and leave in the buffers lent to them: MapCall, LightCall and WalkCall are their contracts
 -- (crates/crossbar/specs/Host.antt), and numberPart and lowPart are CROSSBAR_NUMBER and CROSSBAR_VALUE of include/crossbar.h.
+-- Light may be given the buffers that map filled, or other slices that hold the same crossbar (Holds).
 -- The statement is Demand3OfCalls, and its proof `calls-agree` in proofs/Calls.antt.
 use Prim.Native.Nat.{ℕ, _+_, _≤_, _<_}
 use mathlib.Core.Path.{_≡_}
 use mathlib.Core.Logic.{_↔_}
 use mathlib.Core.Bool.{true}
 use mathlib.Core.List.{List}
-use lib.ListN.{length, getD}
+use lib.ListN.{length, getD, take}
 use Rattle.common.specs.Lists.{padded}
 use Rattle.common.specs.Outcome.{done}
 use Rattle.cells.specs.Record.{Whole, size}
@@ -24,11 +25,20 @@ use Rattle.agreement.specs.Demand3.{Reads, WalksToOne, Tells, standsOn}
 unfoldable pub inBuffers : List ℕ → List ℕ → Whole
 inBuffers head cells = record { head = recordFrom head; codes = cells }
 
+-- two slices of any length that is long enough hold the crossbar of these buffers: its record and its R·C cells, and zeros past them
+pub record Holds (head cells head₁ cells₁ : List ℕ) : Type 0 where
+  pub record-long : recordLength ≤ length head₁
+  pub record-held : head₁ ≡ padded (length head₁) (take recordLength head)
+  pub cells-long : size (recordFrom head) ≤ length cells₁
+  pub cells-held : cells₁ ≡ padded (length cells₁) (take (size (recordFrom head)) cells)
+
 -- what map left for an accepted text that says d: its crossbar, what its outputs read, and what light and walk answer
 pub record BuffersAgree (text : List ℕ) (d : Diagram) (head cells : List ℕ) : Type 0 where
   -- "Its crossbar is the cells and record that map gives for it", and every byte past the cells is 0
   pub placed : recordFrom head ≡ placement.crossbar d
   pub cells-placed : cells ≡ padded (length cells) (placement.cells d)
+  -- "An output stands on the row of the id that its line names, or for id 0 on the last row without cells"
+  pub stands : (j : ℕ) → j < length (d .outs) → standsOn (inBuffers head cells) j ≡ placement.outRow d (getD (d .outs) j 0)
   -- an output reads 1 exactly when its walk ends at one
   pub reading :
       (setting : List ℕ) (j : ℕ)
@@ -44,17 +54,21 @@ pub record BuffersAgree (text : List ℕ) (d : Diagram) (head cells : List ℕ) 
       → isSetting (d .switches) setting ≡ true
       → Reads (inBuffers head cells) setting i ↔ Reads (inBuffers head cells) setting j)
       ↔ (standsOn (inBuffers head cells) i ≡ standsOn (inBuffers head cells) j)
-  -- light, given these two buffers and a setting, answers the reading by the byte at the output's row, unless it refuses
+  -- these two buffers hold this crossbar, and so may others, to which the host copied it or load wrote it
+  pub held : Holds head cells head cells
+  -- light, given slices that hold this crossbar and a setting, answers the reading by the byte at the output's row, unless it refuses
   pub shown :
-      (setting wires₀ : List ℕ) (answer : ℕ) (wires : List ℕ) (j : ℕ)
-      → LightCall head cells setting wires₀ answer wires
+      (head₁ cells₁ setting wires₀ : List ℕ) (answer : ℕ) (wires : List ℕ) (j : ℕ)
+      → Holds head cells head₁ cells₁
+      → LightCall head₁ cells₁ setting wires₀ answer wires
       → numberPart answer ≡ 0
       → j < length (d .outs)
       → Tells (getD wires (standsOn (inBuffers head cells) j) 0) (Reads (inBuffers head cells) setting j)
   -- it refuses neither a setting of the job's switches nor a buffer of R + C bytes
   pub lights :
-      (setting wires₀ : List ℕ) (answer : ℕ) (wires : List ℕ)
-      → LightCall head cells setting wires₀ answer wires
+      (head₁ cells₁ setting wires₀ : List ℕ) (answer : ℕ) (wires : List ℕ)
+      → Holds head cells head₁ cells₁
+      → LightCall head₁ cells₁ setting wires₀ answer wires
       → isSetting (d .switches) setting ≡ true
       → recordFrom head .rows + recordFrom head .columns ≤ length wires₀
       → numberPart answer ≡ 0

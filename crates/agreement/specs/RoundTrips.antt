@@ -17,6 +17,7 @@ use Rattle.listings.specs.Loading.{load}
 use Rattle.crossbar.specs.Bytes.{recordLength, recordFrom}
 use Rattle.crossbar.specs.Host.{packed, MapCall, LightCall, PrintCall, LoadCall}
 use Rattle.crossbar.specs.Parts.{numberPart, lowPart}
+use Rattle.agreement.specs.Calls.{Holds}
 
 -- each entry of a slice is a byte
 unfoldable pub AreBytes : List ℕ → Type 0
@@ -28,6 +29,8 @@ pub record Again (head cells : List ℕ) (n m answer : ℕ) (head₁ cells₁ : 
   pub value : lowPart answer ≡ size (recordFrom head)
   pub same-record : head₁ ≡ padded n (take recordLength head)
   pub same-cells : cells₁ ≡ padded m (take (size (recordFrom head)) cells)
+  -- so light may be given them in place of the slices, as Calls.antt says
+  pub held : Holds head cells head₁ cells₁
   -- byte for byte the same where the buffers are as long as the slices
   pub whole-record : n ≡ length head → head₁ ≡ head
   pub whole-cells : m ≡ length cells → cells₁ ≡ cells

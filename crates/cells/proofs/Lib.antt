@@ -1,3 +1,4 @@
 pub mod Codes
 pub mod Every
 pub mod Sizes
+pub mod Slices

@@ -7,8 +7,8 @@ use mathlib.Core.List.{List, [], _∷_, _++_, map, append-assoc, append-nil}
 use native.Mathlib.Omega.{arith}
 use native.Mathlib.Numerals.{add-one}
 use native.Mathlib.Nat.{eq-or-lt-of-le, mul-le-mul-right, zero-mul}
-use lib.ListN.{length, getD, set, drop, replicate, length-append, length-replicate, replicate-append-replicate, List·getD-append}
-use lib.Seq.{drop-cons, getD-append-add, getD-at, set-at}
+use lib.ListN.{length, getD, set, take, drop, length-append, length-replicate, replicate-append-replicate, List·getD-append}
+use lib.Seq.{drop-cons, getD-append-add, getD-at, set-at, take-at}
 use lib.Dec.{eqb, ltb}
 use borrow.Author.Tests.{eqb-true, eqb-false, eq-eqb, ltb-true, ltb-false}
 use Rattle.common.specs.Lists.{bit, zeros, padded, tab, grid, some-below, all-of, any-of, same}
@@ -17,6 +17,11 @@ pub bit-one : (b : Bool) → bit b ≡ 1 → b ≡ true
 unfolding bit
 bit-one true h = refl
 bit-one false h = let z : _≡_ {A = ℕ} 0 1 = h in absurd (omega arith)
+
+pub bit-most : (b : Bool) → bit b ≤ 1
+unfolding bit
+bit-most true = omega arith
+bit-most false = omega arith
 
 pub eqb-bit : (b : Bool) → eqb (bit b) 1 ≡ b
 unfolding bit
@@ -108,6 +113,13 @@ getD-tab (suc n) f i d h =
     List·getD-append (tab n f) (f n ∷ []) d i within ∙ getD-tab n f i d below)
     (at-or-below i n h)
 
+-- tables that agree below n are equal
+pub tab-agree {ℓ} : {A : Type ℓ} (n : ℕ) (f g : ℕ → A) → ((k : ℕ) → k < n → f k ≡ g k) → tab n f ≡ tab n g
+unfolding tab
+tab-agree zero f g same = refl
+tab-agree (suc n) f g same =
+    rw (tab-agree n f g (λ k below. same k (omega arith)), same n (omega arith))
+
 -- a table before the rest of a list, with one entry more
 pub tab-more :
     (f : ℕ → ℕ) (i : ℕ) (l : List ℕ) → i < length l → set (tab i f ++ drop i l) i (f i) ≡ tab (i + 1) f ++ drop (i + 1) l
@@ -115,6 +127,10 @@ unfolding tab
 tab-more f i l h =
     rw (add-one, drop-cons l i 0 h)
     (set-at (tab i f) (getD l i 0) (drop (suc i) l) (f i) i (length-tab i f) ∙ sym (append-assoc (tab i f) (f i ∷ []) (drop (suc i) l)))
+
+-- where a row and a column meet, in a grid kept row by row
+pub within-grid : (m n r c : ℕ) → r < m → c < n → r * n + c < m * n
+within-grid m n r c h k = omega (arith, mul-le-mul-right n h)
 
 pub length-grid : (m n : ℕ) (f : ℕ → ℕ → ℕ) → length (grid m n f) ≡ m * n
 unfolding grid
@@ -131,7 +147,7 @@ getD-grid (suc m) n f r c d h k =
     rw e
     (rw (← (length-grid m n f)) (getD-append-add (grid m n f) (tab n (f m)) c d ∙ getD-tab n (f m) c d k)))
     (λ (below : r < m).
-    let within : r * n + c < length (grid m n f) = rw length-grid (omega (arith, mul-le-mul-right n below)) in
+    let within : r * n + c < length (grid m n f) = rw length-grid (within-grid m n r c below k) in
     List·getD-append (grid m n f) (tab n (f m)) d (r * n + c) within ∙ getD-grid m n f r c d below k)
     (at-or-below r m h)
 
@@ -160,11 +176,6 @@ unfolding all-of
 all-of-at f [] i h k = absurd (omega arith)
 all-of-at f (a ∷ l) zero h k = and-left (f a) (all-of f l) h
 all-of-at f (a ∷ l) (suc i) h k = all-of-at f l i (and-right (f a) (all-of f l) h) (omega arith)
-
-pub all-of-by : (f : ℕ → Bool) (l : List ℕ) → ((i : ℕ) → i < length l → f (getD l i 0) ≡ true) → all-of f l ≡ true
-unfolding all-of
-all-of-by f [] h = refl
-all-of-by f (a ∷ l) h = and-both (f a) (all-of f l) (h 0 (omega arith)) (all-of-by f l (λ i k. h (suc i) (omega arith)))
 
 -- what holds of no entry holds at no index
 pub any-of-none {ℓ} : {A : Type ℓ} (f : A → Bool) (l : List A) (i : ℕ) (d : A) → any-of f l ≡ false → i < length l → f (getD l i d) ≡ false
@@ -209,6 +220,10 @@ length-padded n s h = simp (length-append, length-replicate) (omega arith)
 pub getD-padded : (n : ℕ) (s : List ℕ) (i d : ℕ) → i < length s → getD (padded n s) i d ≡ getD s i d
 unfolding padded
 getD-padded n s i d h = List·getD-append s (zeros (n - length s)) d i h
+
+pub take-padded : (n k : ℕ) (s : List ℕ) → length s ≡ k → take k (padded n s) ≡ s
+unfolding padded
+take-padded n k s e = take-at s (zeros (n - length s)) k e
 
 -- an entry of a list whose entries were all put through a function
 pub getD-map-at : (f : ℕ → ℕ) (l : List ℕ) (i d e : ℕ) → i < length l → getD (map f l) i d ≡ f (getD l i e)
@@ -275,12 +290,12 @@ unfolding padded
 padded-full p s h = let e : p - length s ≡ 0 = omega arith in rw e (append-nil s)
 
 -- padding does not change what stands at a place, 0 past the end
-getD-zeros-at : (k i : ℕ) → getD (zeros k) i 0 ≡ 0
+pub getD-zeros-at : (k i : ℕ) → getD (zeros k) i 0 ≡ 0
 getD-zeros-at zero i = refl
 getD-zeros-at (suc k) zero = refl
 getD-zeros-at (suc k) (suc i) = getD-zeros-at k i
 
-getD-before-zeros : (s : List ℕ) (k i : ℕ) → getD (s ++ zeros k) i 0 ≡ getD s i 0
+pub getD-before-zeros : (s : List ℕ) (k i : ℕ) → getD (s ++ zeros k) i 0 ≡ getD s i 0
 getD-before-zeros [] k i = getD-zeros-at k i
 getD-before-zeros (a ∷ s) k zero = refl
 getD-before-zeros (a ∷ s) k (suc i) = getD-before-zeros s k i

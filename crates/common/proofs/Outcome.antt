@@ -1,8 +1,8 @@
 -- Laws of outcomes: what an outcome that is done says of the steps that led to it.
-use Prim.Native.Nat.{ℕ, zero, suc, _+_}
-use mathlib.Core.Path.{_≡_, refl, sym, ap, _∙_}
+use Prim.Native.Nat.{ℕ, zero, suc}
+use mathlib.Core.Path.{_≡_, refl}
 use mathlib.Core.Bool.{Bool, true, false}
-use mathlib.Core.List.{List, [], _∷_}
+use mathlib.Core.List.{List, _∷_}
 use native.Mathlib.Omega.{arith}
 use Rattle.common.specs.Outcome.{Outcome, done, refused, _then_, Ground, _when_, lowest, unless}
 

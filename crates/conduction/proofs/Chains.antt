@@ -1,7 +1,7 @@
 -- Lit wires and chains: a wire that is lit after some rounds has a chain from row 0, and at rest a wire with a chain is lit.
 use Prim.Native.Nat.{ℕ, zero, suc, _+_, _<_}
 use mathlib.Core.Path.{_≡_, sym, _∙_}
-use mathlib.Core.Logic.{_↔_, ⊎-elim}
+use mathlib.Core.Logic.{⊎-elim}
 use mathlib.Core.Bool.{Bool, true, _&&_}
 use mathlib.Core.List.{List}
 use native.Mathlib.Omega.{arith}
@@ -110,9 +110,3 @@ module _ (m n : ℕ) (joined : ℕ → ℕ → Bool) where
       → lit (rounds m n joined t) (place m w) ≡ true
   unfolding rounds
   chain-lit h t rest = closed-lit h (rounds m n joined t) (rest-same m n joined t rest) (row-0-lit m n joined h t)
-
-  -- at rest the lit wires are those with a chain
-  pub lit-iff-chain :
-      0 < m → (t : ℕ) → atRest m n joined t ≡ true → (w : Wire) → Within m n w
-      → (lit (rounds m n joined t) (place m w) ≡ true) ↔ Chain m n joined w
-  lit-iff-chain h t rest w k = (lit-chain h t w k, chain-lit h t rest w)

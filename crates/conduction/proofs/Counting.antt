@@ -2,8 +2,8 @@
 -- the number of rounds that reaches the number of wires ends them too.
 use Prim.Native.Nat.{ℕ, suc, _+_, _*_, _%_, _≤_, _<_}
 use mathlib.Core.Path.{_≡_, refl, sym, ap, _∙_}
-use mathlib.Core.Logic.{_⊎_, ⊎-elim}
-use mathlib.Core.Bool.{Bool, true, false, not}
+use mathlib.Core.Logic.{⊎-elim}
+use mathlib.Core.Bool.{Bool, true, false}
 use mathlib.Core.List.{List}
 use native.Mathlib.Omega.{arith}
 use native.Mathlib.Numerals.{add-one}
@@ -14,8 +14,8 @@ use Rattle.common.specs.Limits.{maxRows, maxColumns}
 use Rattle.common.specs.Lists.{same}
 use Rattle.common.proofs.Lists.{same-eq, at-or-below, below-or-not, equal-or-not, not-zero, length-tab, getD-tab}
 use Rattle.conduction.specs.Round.{atRest}
-use Rattle.conduction.specs.First.{stamped, startStamps, stampsAfter, Rounded, Rest, Counted}
-use Rattle.conduction.specs.Wires.{unit, placeOf, wireOf, inOrder, passing, Sided, Fronted, TurnReady, Standing, Fits, Turned}
+use Rattle.conduction.specs.First.{stamped, startStamps, stampsAfter, Rounded, Counted}
+use Rattle.conduction.specs.Wires.{unit, placeOf, wireOf, inOrder, passing, Sided, Standing, Fits, Turned}
 use Rattle.conduction.proofs.Stamps.{start-stamp, start-one, rest-by-stamps}
 use Rattle.conduction.proofs.Turns.{place-wire}
 use Rattle.conduction.proofs.Crossing.{row-small, column-small}

@@ -6,14 +6,14 @@ use mathlib.Core.Logic.{inl, inr, ⊎-elim}
 use mathlib.Core.Bool.{Bool, true, false}
 use mathlib.Core.List.{List}
 use native.Mathlib.Omega.{arith}
-use native.Mathlib.Nat.{mul-le-mul-left, mul-le-mul-right}
+use native.Mathlib.Nat.{mul-le-mul-left}
 use lib.ListN.{length, getD}
 use lib.Seq.{ext-getD}
 use lib.Dec.{ltb}
 use borrow.Author.Tests.{lt-ltb, le-ltb}
 use Rattle.common.specs.Limits.{maxRows, maxColumns}
 use Rattle.common.specs.Lists.{same}
-use Rattle.common.proofs.Lists.{by-test, below-or-not, equal-or-not, not-zero, same-eq, eq-same}
+use Rattle.common.proofs.Lists.{by-test, below-or-not, equal-or-not, not-zero, same-eq, eq-same, within-grid}
 use Rattle.conduction.specs.First.{meets, stamp, reached, stamped, Rounded}
 use Rattle.conduction.specs.Wires.{
   unit,
@@ -200,9 +200,6 @@ module _
         }
 
 -- what the parts of a round ask for: the cells where the wires meet are there, and each wire has its place among the stamps
-cell-within : (m n r c : ℕ) → r < m → c < n → r * n + c < m * n
-cell-within m n r c h k = omega (arith, mul-le-mul-right n h)
-
 module _
     (m n : ℕ)
     (joined : ℕ → ℕ → Bool)
@@ -254,12 +251,12 @@ module _ (on cells rows columns stamps : List ℕ) (t head tail dark : ℕ) (fit
   pub spread-across : t % 2 ≡ 0 → Spreadable on cells rows columns head tail dark
   spread-across parity =
       spreadable _ _ _ _ _ _ _ _ _ _ _ _ _ _ _ _ rows-there (standing .even parity) (fits .table)
-      (λ r c p q. omega (arith, cell-within (length rows) (length columns) r c p q, fits .cells-fit))
+      (λ r c p q. omega (arith, within-grid (length rows) (length columns) r c p q, fits .cells-fit))
 
   pub spread-back : (t % 2 ≡ 0 → ⊥) → Spreadable on cells columns rows head tail dark
   spread-back parity =
       spreadable _ _ _ _ _ _ _ _ _ _ _ _ _ _ _ _ columns-there (standing .odd parity) (fits .table)
-      (λ c r q p. omega (arith, cell-within (length rows) (length columns) r c p q, fits .cells-fit))
+      (λ c r q p. omega (arith, within-grid (length rows) (length columns) r c p q, fits .cells-fit))
 
   pub mark-across :
       t % 2 ≡ 0 → (f : ℕ → Bool) (columns′ : List ℕ) (end : ℕ) → length columns′ ≡ length columns

@@ -11,3 +11,4 @@ pub mod Sorting
 pub mod Parts
 pub mod Turns
 pub mod Crossing
+pub mod Slices

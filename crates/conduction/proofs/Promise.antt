@@ -1,18 +1,18 @@
 -- Light's promise: what the rounds leave in the buffer, and the answer and the bytes on each of light's grounds and on none.
 use Prim.Native.Nat.{ℕ, _+_, _-_, _*_, _≤_, _<_}
-use mathlib.Core.Path.{_≡_, refl, sym, ap, _∙_}
-use mathlib.Core.Bool.{Bool, true, false, not}
-use mathlib.Core.List.{List, [], _∷_, _++_}
+use mathlib.Core.Path.{_≡_, sym, ap, _∙_}
+use mathlib.Core.Bool.{Bool, true, false}
+use mathlib.Core.List.{List, _++_}
 use native.Mathlib.Omega.{arith}
 use native.Mathlib.Nat.{mul-le-mul-right}
 use lib.ListN.{length, getD, take, drop}
 use lib.Seq.{getD-take, length-take-le}
-use lib.Dec.{leb, ltb}
+use lib.Dec.{leb}
 use borrow.Author.Tests.{leb-true, lt-ltb, le-ltb}
 use Rattle.common.specs.Limits.{maxSwitches}
 use Rattle.common.specs.Lists.{bit, zeros, padded, tab}
 use Rattle.common.proofs.Lists.{eqb-bit, all-of-at, length-tab, getD-tab, length-padded, getD-padded-any, drop-zeros}
-use Rattle.common.specs.Outcome.{Outcome, done, refused, lowest, unless, numberOf, lineOf, refusalOf, valueOf, bufferOf, Answered}
+use Rattle.common.specs.Outcome.{refused, lowest, unless, numberOf, lineOf, refusalOf, valueOf, bufferOf, Answered}
 use Rattle.cells.specs.declared.Crossbar.{Crossbar}
 use Rattle.cells.specs.Code.{cellOf}
 use Rattle.cells.specs.Conducts.{conducts, joins}
@@ -20,8 +20,8 @@ use Rattle.cells.specs.Record.{sound}
 use Rattle.cells.specs.Setting.{isSetting}
 use Rattle.conduction.specs.declared.Lighted.{Lighted}
 use Rattle.conduction.specs.Round.{rounds, roundCount, atRest}
-use Rattle.conduction.specs.First.{stampsAfter, withStamp, Rest, Counted, Shown}
-use Rattle.conduction.specs.Light.{Lit, joined, litBy, light, lighted}
+use Rattle.conduction.specs.First.{withStamp, Counted, Shown}
+use Rattle.conduction.specs.Light.{joined, litBy, light, lighted}
 use Rattle.conduction.specs.Wires.{codes, passes, passing, onCodes, CodeTable, LampReady}
 use Rattle.conduction.proofs.Rounds.{length-rounds, rounds-same, rests-same}
 use Rattle.conduction.proofs.Count.{count-only}

@@ -3,7 +3,7 @@
 use Prim.Native.Nat.{ℕ, zero, suc, _+_, _-_, _≤_, _<_}
 use mathlib.Core.Path.{_≡_, refl, sym, ap, _∙_}
 use mathlib.Core.Logic.{_⊎_, inl, inr, ⊎-elim}
-use mathlib.Core.Bool.{Bool, true, false, _&&_, _||_}
+use mathlib.Core.Bool.{Bool, true, _&&_, _||_}
 use mathlib.Core.List.{List, _++_}
 use native.Mathlib.Omega.{arith}
 use native.Mathlib.Nat.{add-suc, add-zero}
@@ -12,7 +12,7 @@ use lib.Seq.{getD-append-add}
 use lib.Dec.{eqb}
 use borrow.Author.Tests.{eqb-true, eq-eqb}
 use Rattle.common.specs.Lists.{bit, tab, some-below}
-use Rattle.common.proofs.Lists.{eqb-bit, or-left, length-tab, getD-tab, below-or-not, same-eq, eq-same}
+use Rattle.common.proofs.Lists.{eqb-bit, or-left, length-tab, getD-tab, below-or-not, same-eq, eq-same, bit-most, tab-agree}
 use Rattle.conduction.specs.Round.{lit, start, round, rounds, atRest}
 use Rattle.conduction.specs.Chain.{Wire, row, column, place, Within}
 
@@ -27,11 +27,6 @@ getD-second m n f g i h =
     ap (λ (k : ℕ). getD (tab m f ++ tab n g) (k + i) 0) (sym (length-tab m f))
     ∙ getD-append-add (tab m f) (tab n g) i 0
     ∙ getD-tab n g i 0 h
-
-bit-small : (b : Bool) → bit b ≤ 1
-unfolding bit
-bit-small true = omega arith
-bit-small false = omega arith
 
 -- an entry is 1 just where the wire is lit
 pub lit-one : (set : List ℕ) (i : ℕ) → lit set i ≡ true → getD set i 0 ≡ 1
@@ -93,11 +88,11 @@ module _ (m n : ℕ) (joined : ℕ → ℕ → Bool) where
 
   rounds-small-below : (t i : ℕ) → i < m + n → getD (rounds m n joined t) i 0 ≤ 1
   unfolding rounds
-  rounds-small-below zero i h = rw (start-entry m n i h) (bit-small (eqb i 0))
+  rounds-small-below zero i h = rw (start-entry m n i h) (bit-most (eqb i 0))
   rounds-small-below (suc t) i h =
       let at = wire-at m n i h in
       let set = rounds m n joined t in
-      rw (← (at .2)) (rw (round-entry set (at .0) (at .1)) (bit-small (next set (at .0))))
+      rw (← (at .2)) (rw (round-entry set (at .0) (at .1)) (bit-most (next set (at .0))))
 
   pub rounds-small : (t i : ℕ) → getD (rounds m n joined t) i 0 ≤ 1
   rounds-small t i =
@@ -162,11 +157,6 @@ module _ (m n : ℕ) (joined : ℕ → ℕ → Bool) where
   rounds-after t (suc k) h = rw add-suc (rest-same (t + k) (rest-after t k h) ∙ rounds-after t k h)
 
 -- two ways to say which cells conduct that agree on the cells of the crossbar
-tab-same : (n : ℕ) (f g : ℕ → ℕ) → ((i : ℕ) → i < n → f i ≡ g i) → tab n f ≡ tab n g
-unfolding tab
-tab-same zero f g h = refl
-tab-same (suc n) f g h = rw (tab-same n f g (λ i p. h i (omega arith)), h n (omega arith))
-
 some-same : (n : ℕ) (f g : ℕ → Bool) → ((i : ℕ) → i < n → f i ≡ g i) → some-below n f ≡ some-below n g
 unfolding some-below
 some-same zero f g h = refl
@@ -177,13 +167,13 @@ module _ (m n : ℕ) (joined joined′ : ℕ → ℕ → Bool) (agree : (r c : �
   unfolding round
   round-same set =
       rw (
-        tab-same m
+        tab-agree m
             (λ r. bit (lit set r || some-below n (λ c. joined r c && lit set (m + c))))
             (λ r. bit (lit set r || some-below n (λ c. joined′ r c && lit set (m + c))))
             (λ r p.
             rw
             (some-same n (λ c. joined r c && lit set (m + c)) (λ c. joined′ r c && lit set (m + c)) (λ c q. rw (agree r c p q)))),
-        tab-same n
+        tab-agree n
             (λ c. bit (lit set (m + c) || some-below m (λ r. joined r c && lit set r)))
             (λ c. bit (lit set (m + c) || some-below m (λ r. joined′ r c && lit set r)))
             (λ c q. rw (some-same m (λ r. joined r c && lit set r) (λ r. joined′ r c && lit set r) (λ r p. rw (agree r c p q)))),

@@ -1,6 +1,6 @@
 -- Lists whose entries are exchanged, and the parts of a round: nothing sorted yet, one entry more, the rest of a list after a part of it, and
 -- a second part after a first.
-use Prim.Native.Nat.{ℕ, suc, _+_, _≤_, _<_}
+use Prim.Native.Nat.{ℕ, _+_, _≤_, _<_}
 use mathlib.Core.Path.{_≡_, refl, sym, ap, _∙_}
 use mathlib.Core.Logic.{⊎-elim}
 use mathlib.Core.Bool.{Bool, true, false, _||_}

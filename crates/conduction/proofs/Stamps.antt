@@ -10,7 +10,7 @@ use lib.ListN.{length, getD, set, length-set, length-replicate, getD-replicate, 
 use lib.Seq.{ext-getD, getD-set-same, getD-set-other}
 use lib.Dec.{eqb, leb, ltb}
 use borrow.Author.Tests.{ltb-true, leb-true, eqb-true, lt-ltb, le-ltb, le-leb, eq-eqb, ne-eqb}
-use Rattle.common.specs.Lists.{bit, zeros, tab, some-below, same}
+use Rattle.common.specs.Lists.{bit, zeros, some-below, same}
 use Rattle.common.proofs.Lists.{
   and-left,
   and-right,
@@ -34,7 +34,7 @@ use Rattle.common.proofs.Lists.{
 use Rattle.conduction.specs.Round.{lit, start, round, rounds, atRest}
 use Rattle.conduction.specs.Chain.{Wire, row, column, place, Within}
 use Rattle.conduction.specs.First.{meets, stamp, reached, stamped, startStamps, stampsAfter, withStamp}
-use Rattle.conduction.proofs.Rounds.{next, round-lit, wire-at, start-lit, length-rounds, lit-one, one-lit, rounds-bits, rest-same, same-rest}
+use Rattle.conduction.proofs.Rounds.{next, round-lit, wire-at, start-lit, length-rounds, rounds-bits, rest-same, same-rest}
 
 -- a stamp after a wire is reached or not
 pub stamp-kept : (new : ℕ) (b : Bool) (old : ℕ) → 0 < old → stamp new b old ≡ old
@@ -191,7 +191,7 @@ module _ (m n : ℕ) (joined : ℕ → ℕ → Bool) where
       rw (← (at .2)) (round-lit m n joined set (at .0) (at .1) ∙ next-touched set (at .0) (at .1))
 
   -- the stamps after t rounds and the set after t rounds, side by side
-  pub record Tells (t : ℕ) (stamps set : List ℕ) : Type 0 where
+  pub record Stamped (t : ℕ) (stamps set : List ℕ) : Type 0 where
     pub lits : (v : ℕ) → v < m + n → ltb 0 (getD stamps v 0) ≡ lit set v
     pub most : (v : ℕ) → getD stamps v 0 ≤ t + 1
     pub past : (v : ℕ) → 0 < getD stamps v 0 → v < m + n
@@ -241,7 +241,7 @@ module _ (m n : ℕ) (joined : ℕ → ℕ → Bool) where
       (below-or-not v (length stamps))
 
   -- one round of both
-  module _ (t : ℕ) (stamps set : List ℕ) (room : m + n ≤ length stamps) (told : Tells t stamps set) where
+  module _ (t : ℕ) (stamps set : List ℕ) (room : m + n ≤ length stamps) (told : Stamped t stamps set) where
     after-kept : (v : ℕ) → 0 < getD stamps v 0 → getD (stamped m n joined t stamps) v 0 ≡ getD stamps v 0
     after-kept v h =
         stamped-entry t stamps room v ∙ stamp-kept (t + 2) (reached m n joined t stamps v) (getD stamps v 0) h
@@ -309,8 +309,8 @@ module _ (m n : ℕ) (joined : ℕ → ℕ → Bool) where
         after-touched (found .0) v (found .1) (lit-told (found .0) (meets-below (found .0) v (found .1) .0) (found .2)))
         (or-cases (lit set v) (touched set v) (sym (round-touched set v h) ∙ e))))
 
-    pub tells-more : Tells (suc t) (stamped m n joined t stamps) (round m n joined set)
-    tells-more =
+    pub stamped-more : Stamped (suc t) (stamped m n joined t stamps) (round m n joined set)
+    stamped-more =
         record {
           lits = after-lits;
           most =
@@ -362,8 +362,8 @@ module _ (m n : ℕ) (joined : ℕ → ℕ → Bool) where
     unfolding startStamps bit
     start-one = getD-tab k (λ w. bit (eqb w 0)) 0 0 (omega arith)
 
-    tells-start : Tells 0 (startStamps k) (start m n)
-    tells-start =
+    stamped-start : Stamped 0 (startStamps k) (start m n)
+    stamped-start =
         record {
           lits =
               λ v h.
@@ -394,11 +394,11 @@ module _ (m n : ℕ) (joined : ℕ → ℕ → Bool) where
           before = λ u v h l e. absurd (omega arith);
         }
 
-    pub tells : (t : ℕ) → Tells t (stampsAfter k m n joined t) (rounds m n joined t)
+    pub stamped-all : (t : ℕ) → Stamped t (stampsAfter k m n joined t) (rounds m n joined t)
     unfolding stampsAfter rounds
-    tells zero = tells-start
-    tells (suc t) =
-        tells-more t (stampsAfter k m n joined t) (rounds m n joined t) (rw (length-stamps t) room) (tells t)
+    stamped-all zero = stamped-start
+    stamped-all (suc t) =
+        stamped-more t (stampsAfter k m n joined t) (rounds m n joined t) (rw (length-stamps t) room) (stamped-all t)
 
     -- a round that adds nothing: the stamps stay as they are just where the rounds are at rest
     stamps-rest : (t : ℕ) → atRest m n joined t ≡ true → stampsAfter k m n joined t ≡ stampsAfter k m n joined (suc t)
@@ -412,13 +412,13 @@ module _ (m n : ℕ) (joined : ℕ → ℕ → Bool) where
         (λ (same-stamp : getD (stampsAfter k m n joined (suc t)) v 0 ≡ getD stamps v 0). sym same-stamp)
         (λ (e : (getD (stampsAfter k m n joined (suc t)) v 0 ≡ t + 2) × (reached m n joined t stamps v ≡ true)).
         let some : 0 < getD (stampsAfter k m n joined (suc t)) v 0 = omega (arith, e .0) in
-        let below = tells (suc t) .past v some in
+        let below = stamped-all (suc t) .past v some in
         let lit-after : lit (rounds m n joined (suc t)) v ≡ true =
-        sym (tells (suc t) .lits v below) ∙ lt-ltb 0 (getD (stampsAfter k m n joined (suc t)) v 0) some in
+        sym (stamped-all (suc t) .lits v below) ∙ lt-ltb 0 (getD (stampsAfter k m n joined (suc t)) v 0) some in
         let lit-before : lit (rounds m n joined t) v ≡ true = rw (← (rest-same m n joined t h)) lit-after in
-        let had : 0 < getD stamps v 0 = ltb-true 0 (getD stamps v 0) (tells t .lits v below ∙ lit-before) in
-        sym (after-kept t stamps (rounds m n joined t) long (tells t) v had))
-        (after-cases t stamps (rounds m n joined t) long (tells t) v))
+        let had : 0 < getD stamps v 0 = ltb-true 0 (getD stamps v 0) (stamped-all t .lits v below ∙ lit-before) in
+        sym (after-kept t stamps (rounds m n joined t) long (stamped-all t) v had))
+        (after-cases t stamps (rounds m n joined t) long (stamped-all t) v))
 
     -- the wires with a stamp after t rounds are those lit after t rounds
     pub stamps-lit : (t : ℕ) → withStamp (m + n) (stampsAfter k m n joined t) ≡ rounds m n joined t
@@ -430,7 +430,7 @@ module _ (m n : ℕ) (joined : ℕ → ℕ → Bool) where
         (λ v h.
         let below : v < m + n = rw length-tab at h in
         getD-tab (m + n) (λ w. bit (ltb 0 (getD stamps w 0))) v 0 below
-        ∙ ap bit (tells t .lits v below)
+        ∙ ap bit (stamped-all t .lits v below)
         ∙ ⊎-elim
         (λ (e : getD (rounds m n joined t) v 0 ≡ 0). rw e)
         (λ (e : getD (rounds m n joined t) v 0 ≡ 1). rw e)

@@ -9,7 +9,6 @@ use native.Mathlib.Omega.{arith}
 use lib.ListN.{length, getD}
 use lib.Dec.{eqb, leb}
 use borrow.Author.Tests.{le-leb, leb-true, eqb-true, eq-eqb}
-use Rattle.common.specs.Lists.{some-below}
 use Rattle.common.proofs.Lists.{and-left, and-right, and-both, both-ways, by-test, true-or-false, below-or-not, some-below-at, some-below-is}
 use Rattle.conduction.specs.First.{meets, stamp, reached}
 use Rattle.conduction.specs.Wires.{unit, placeOf, addsOf, wireOf, passes, joinedTo, Sorted, among, NewlyStamped, Sided, Fronted, TurnReady}

@@ -3,9 +3,8 @@
 // times UNIT, plus what it adds to the place of a cell. Row r adds r·n and column c adds c, so that the cell where they meet stands at the
 // sum.
 ghost use mathlib.Core.Path.{_≡_};
-ghost use mathlib.Core.Bool.{false};
-ghost use Prim.Native.Nat.{ℕ, _+_, _*_, _≤_, _<_};
-ghost use lib.ListN.{length, getD};
+ghost use Prim.Native.Nat.{_+_, _*_, _≤_, _<_};
+ghost use lib.ListN.{length};
 ghost use Rattle.common.specs.Limits.{maxRows, maxColumns};
 ghost use Rattle.conduction.specs.Wires.{codes, placeOf, addsOf, inOrder, passes, codeMet, fourOff, joinedTo, CodeTable, Meeting, Sortable, Spreadable, InPlaces, Sorted, NewlyStamped};
 

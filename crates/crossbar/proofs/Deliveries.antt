@@ -20,7 +20,9 @@ use Rattle.listings.specs.Loading.{load}
 use Rattle.listings.specs.Loader.{loaded}
 use Rattle.crossbar.specs.Bytes.{recordLength, recordBytes}
 use Rattle.crossbar.specs.Host.{numberUnit, packed, mostNumber, packedFrom, delivery, cellsLeft, forRecord, cellsDue, Delivered}
-use Rattle.crossbar.proofs.Numbers.{ByGround, of-refused, unless-some, number-most, map-numbered, load-numbered}
+use Rattle.crossbar.proofs.Numbers.{ByGround, of-refused, number-most}
+use Rattle.common.proofs.Outcome.{unless-some}
+use Rattle.crossbar.proofs.Ends.{by-ground, mapped-ends, loaded-ends}
 
 -- the outcome of a delivery: a refusal from beneath, a record's buffer that is too short, or the record
 module _ (refusal : Refusal) (x : Crossbar) (n : ℕ) where
@@ -47,20 +49,20 @@ for-long n w room = rw (le-ltb n recordLength room)
 
 -- a record's answer and buffer in each case
 module _ (refusal : Refusal) (x : Crossbar) (n r : ℕ) (head : List ℕ) where
-  abbrev Written : Type 0
-  Written = Answered (delivery refusal x n) (packed size) recordBytes n r head
+  abbrev WrittenTo : Type 0
+  WrittenTo = Answered (delivery refusal x n) (packed size) recordBytes n r head
 
-  pub written-refused : (refusal .number ≡ 0 → ⊥) → r ≡ packedFrom refusal 0 → head ≡ zeros n → Written
+  pub written-refused : (refusal .number ≡ 0 → ⊥) → r ≡ packedFrom refusal 0 → head ≡ zeros n → WrittenTo
   unfolding packedFrom packed bufferOf
   written-refused some a z =
       let same = ap (packed (λ v. v)) (unless-some (refusal .number) (refusal .line) (done 0) some) in
       rw (delivery-refused refusal x n some) (record { answer = a ∙ same; buffer = z })
 
-  pub written-short : refusal .number ≡ 0 → n < recordLength → r ≡ 14 * numberUnit → head ≡ zeros n → Written
+  pub written-short : refusal .number ≡ 0 → n < recordLength → r ≡ 14 * numberUnit → head ≡ zeros n → WrittenTo
   unfolding packed bufferOf
   written-short none short a z = rw (delivery-short refusal x n none short) (record { answer = a; buffer = z })
 
-  pub written-done : refusal .number ≡ 0 → recordLength ≤ n → r ≡ x .rows * x .columns → head ≡ padded n (recordBytes x) → Written
+  pub written-done : refusal .number ≡ 0 → recordLength ≤ n → r ≡ x .rows * x .columns → head ≡ padded n (recordBytes x) → WrittenTo
   unfolding packed bufferOf size
   written-done none room a z = rw (delivery-done refusal x n none room) (record { answer = a; buffer = z })
 
@@ -93,7 +95,7 @@ pub map-beneath :
 unfolding mapped
 map-beneath text before after r a =
     let o = mapJob text (length before) in
-    let numbered = map-numbered text (length before) in
+    let numbered = by-ground _ (mapped-ends text (length before)) in
     record {
       numbered = numbered;
       low = rw (a .answer) (number-most o numbered);
@@ -109,7 +111,7 @@ pub load-beneath :
 unfolding loaded
 load-beneath text room r cells a =
     let o = load text room in
-    let numbered = load-numbered text room in
+    let numbered = by-ground _ (loaded-ends text room) in
     record {
       numbered = numbered;
       low = rw (a .answer) (number-most o numbered);

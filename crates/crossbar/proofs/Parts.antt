@@ -1,28 +1,24 @@
 -- The parts of an answer are read back, for each call: its values and its lines are far below 2 to the 56th.
 use Prim.Native.Nat.{ℕ, _+_, _-_, _*_, _/_, _%_, _≤_, _<_}
 use mathlib.Core.Path.{_≡_, refl, ap, _∙_}
-use mathlib.Core.List.{List}
 use native.Mathlib.Omega.{arith}
 use lib.ListN.{length}
 use Rattle.common.specs.Limits.{maxRows, maxColumns, maxNodes, maxOutputs, maxText}
 use Rattle.common.specs.Outcome.{Outcome, done, refused, numberOf}
-use Rattle.cells.specs.Record.{Whole}
 use Rattle.jobs.specs.Job.{walk}
-use Rattle.crossbar.specs.Host.{numberUnit, packed, mostNumber, cellsDue, forRecord, hostMap, hostLoad, ofRecord, hostLight, hostPrint}
+use Rattle.crossbar.specs.Host.{numberUnit, packed, cellsDue, hostMap, hostLoad, hostLight, hostPrint}
 use Rattle.crossbar.specs.Parts.{numberPart, lowPart, Parts, CallsRead}
-use Rattle.crossbar.proofs.Numbers.{ByGround, of-done, of-refused, within, lowest-within, then-numbered, unless-numbered, map-numbered, walk-numbered, light-numbered, print-numbered, load-numbered}
-use Rattle.crossbar.proofs.Ends.{Ends, ends-done, ends-refused, mostLine, map-ends, walk-ends, light-ends, print-ends, load-ends}
+use Rattle.crossbar.proofs.Ends.{EndsWithin, ends-done, ends-refused, mostLine, map-ends, walk-ends, light-ends, print-ends, load-ends}
 
 -- where values up to `most` and lines up to b are below 2 to the 56th, an outcome is read back from its answer
 pub parts :
     {A : Type 0} (value : A → ℕ) (most b : ℕ) (o : Outcome A)
     → most < numberUnit
     → b < numberUnit
-    → ByGround o
-    → Ends (λ a. value a ≤ most) b o
+    → EndsWithin (λ a. value a ≤ most) b o
     → Parts value most o
 unfolding packed numberPart lowPart numberOf
-parts value most b (done a) small short p (ends-done m) =
+parts value most b (done a) small short (ends-done m) =
     let zero-is : value a / numberUnit ≡ 0 = omega arith in
     let all-is : value a % numberUnit ≡ value a = omega arith in
     record {
@@ -32,7 +28,7 @@ parts value most b (done a) small short p (ends-done m) =
       value-most = λ c e. let same : a ≡ c = cc in rw (← same) m;
       line-low = λ k n e. absurd (let z : _≡_ {A = ℕ} 0 1 = cc in omega arith);
     }
-parts value most b (refused k n) small short (of-refused low high) (ends-refused l) =
+parts value most b (refused k n) small short (ends-refused low high l) =
     let number-is : (k * numberUnit + n) / numberUnit ≡ k = omega arith in
     let line-is : (k * numberUnit + n) % numberUnit ≡ n = omega arith in
     record {
@@ -43,15 +39,6 @@ parts value most b (refused k n) small short (of-refused low high) (ends-refused
       line-low = λ i m e. let same : n ≡ m = cc in line-is ∙ same;
     }
 
--- grounds 14 and 12 on a record's buffer and bytes have numbers of their own
-for-record-numbered : (n : ℕ) (o : Outcome Whole) → ByGround o → ByGround (forRecord n o)
-unfolding forRecord within mostNumber
-for-record-numbered n o p = then-numbered o _ p (λ w. unless-numbered _ _ _ (lowest-within _ refl) (of-done _))
-
-of-record-numbered : {A : Type 0} (s : List ℕ) (rest : Outcome A) → ByGround rest → ByGround (ofRecord s rest)
-unfolding ofRecord within mostNumber
-of-record-numbered s rest p = unless-numbered _ _ _ (lowest-within _ refl) p
-
 pub calls-read : CallsRead
 unfolding hostMap hostLoad hostLight hostPrint mostLine maxRows maxColumns maxNodes maxOutputs maxText
 calls-read =
@@ -59,21 +46,21 @@ calls-read =
       of-map =
           λ text n m.
           parts cellsDue (maxRows * maxColumns) mostLine (hostMap text n m) (omega arith) (omega arith)
-          (for-record-numbered n _ (map-numbered text m)) (map-ends text n m);
+          (map-ends text n m);
       of-walk =
           λ text setting j.
           parts (λ v. v) 1 mostLine (walk text setting j) (omega arith) (omega arith)
-          (walk-numbered text setting j) (walk-ends text setting j);
+          (walk-ends text setting j);
       of-light =
           λ s cells setting room.
           parts (λ a. a .count) (maxRows + maxColumns - 1) mostLine (hostLight s cells setting room) (omega arith) (omega arith)
-          (of-record-numbered s _ (light-numbered _ cells setting room)) (light-ends s cells setting room);
+          (light-ends s cells setting room);
       of-print =
           λ s cells room.
           parts length maxText mostLine (hostPrint s cells room) (omega arith) (omega arith)
-          (of-record-numbered s _ (print-numbered _ cells room)) (print-ends s cells room);
+          (print-ends s cells room);
       of-load =
           λ text n m.
           parts cellsDue (maxRows * maxColumns) mostLine (hostLoad text n m) (omega arith) (omega arith)
-          (for-record-numbered n _ (load-numbered text m)) (load-ends text n m);
+          (load-ends text n m);
     }

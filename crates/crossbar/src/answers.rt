@@ -5,7 +5,7 @@ use cells::Crossbar;
 use common::Refusal;
 use common::clear;
 ghost use mathlib.Core.Path.{_≡_};
-ghost use Prim.Native.Nat.{_+_, _*_, _≤_};
+ghost use Prim.Native.Nat.{_*_, _≤_};
 ghost use lib.ListN.{length};
 ghost use Rattle.common.specs.Lists.{zeros};
 ghost use Rattle.common.specs.Outcome.{Answered};

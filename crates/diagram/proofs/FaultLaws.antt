@@ -5,15 +5,15 @@ use mathlib.Core.Logic.{⊎-elim}
 use mathlib.Core.Bool.{Bool, true, false, not, _||_}
 use mathlib.Core.List.{List, [], _∷_}
 use native.Mathlib.Omega.{arith}
-use lib.ListN.{length, length-replicate}
+use lib.ListN.{length}
 use lib.Dec.{eqb, leb, ltb}
 use borrow.Author.Tests.{eq-eqb, ne-eqb, lt-ltb, le-ltb, le-leb, lt-leb}
 use Rattle.common.specs.Limits.{maxNodes}
-use Rattle.common.specs.Lists.{zeros, any-of}
+use Rattle.common.specs.Lists.{any-of}
 use Rattle.common.proofs.Lists.{below-or-not}
 use Rattle.common.specs.Outcome.{_when_, lowest}
 use Rattle.diagram.specs.declared.Node.{Node}
-use Rattle.diagram.specs.Diagram.{Diagram, entries, entry, idCount, switchAt, labelAt}
+use Rattle.diagram.specs.Diagram.{Diagram, idCount, switchAt, labelAt}
 use Rattle.diagram.specs.Faults.{unordered, sameTest, alike, nodeFault, outFault}
 use Rattle.diagram.specs.Table.{entryIn, tabled, Terminals, laterFault}
 use Rattle.diagram.proofs.TableLaws.{entry-tabled}
@@ -116,12 +116,6 @@ module _ (t : List ℕ) (n : ℕ) (m low high : Node) (terminals : Terminals t) 
           → laterFault d m ≡ lowest ((9 when b) ∷ [])
       unfolding lowest
       later-label b new s = by-tests ∙ rw (ordered, ne-eqb (m .l) (m .h) differ, new, s)
-
--- an output's line: how many outputs come before it is all that matters of them
-pub out-fault-count :
-    (t : List ℕ) (n : ℕ) (outs : List ℕ) (j i k : ℕ) → length outs ≡ k → outFault (tabled t n outs) j i ≡ outFault (tabled t n (zeros k)) j i
-unfolding outFault tabled idCount entry entries
-out-fault-count t n outs j i k e = rw (e, length-replicate {A = ℕ} k 0)
 
 module _ (d : Diagram) (k : ℕ) (j i : ℕ) (count : length (d .outs) ≡ k) where
   pub out-turn : (j ≡ k → ⊥) → outFault d j i ≡ 3

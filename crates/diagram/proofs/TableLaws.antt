@@ -8,11 +8,10 @@ use lib.ListN.{length, getD, take, set, length-set}
 use lib.Seq.{getD-set-same, getD-set-other, take-suc-set}
 use Rattle.common.specs.Limits.{maxIds}
 use Rattle.common.specs.Lists.{tab}
-use Rattle.common.proofs.Lists.{length-tab, getD-tab}
+use Rattle.common.proofs.Lists.{length-tab, getD-tab, tab-agree}
 use Rattle.diagram.specs.declared.Node.{Node}
 use Rattle.diagram.specs.Diagram.{terminal, entries, entry, idCount, bare, withNode, withOut}
 use Rattle.diagram.specs.Table.{entryIn, withEntry, opened, tabled, Terminals}
-use Rattle.diagram.proofs.Tables.{tab-agree}
 
 -- four numbers put one after another
 module _ (t : List ℕ) (p a b c d : ℕ) where

@@ -1,5 +1,5 @@
--- Laws of tables by index: two that agree, and a test over all entries.
-use Prim.Native.Nat.{ℕ, zero, suc, _+_, _≤_, _<_}
+-- Laws of a test over all entries of a table.
+use Prim.Native.Nat.{ℕ, suc, _+_, _≤_, _<_}
 use mathlib.Core.Path.{_≡_, refl}
 use mathlib.Core.Bool.{Bool, true, false}
 use mathlib.Core.List.{List, [], _∷_, _++_}
@@ -9,13 +9,6 @@ use lib.ListN.{length, getD, take}
 use lib.Seq.{length-take-le, take-suc, getD-take}
 use Rattle.common.specs.Lists.{tab, any-of}
 use Rattle.common.proofs.Lists.{length-tab, getD-tab, any-of-at, or-none}
-
--- tables that agree below n are equal
-pub tab-agree : {A : Type 0} (n : ℕ) (f g : ℕ → A) → ((k : ℕ) → k < n → f k ≡ g k) → tab n f ≡ tab n g
-unfolding tab
-tab-agree zero f g same = refl
-tab-agree (suc n) f g same =
-    rw (tab-agree n f g (λ k below. same k (omega arith)), same n (omega arith))
 
 -- a test that holds of no entry, and of no further one, holds of none of all
 pub any-of-more : {A : Type 0} (f : A → Bool) (s : List A) (a : A) → any-of f s ≡ false → f a ≡ false → any-of f (s ++ (a ∷ [])) ≡ false

@@ -32,7 +32,7 @@ pub data Valid : Diagram → Type 0 where
   valid-out : {d : Diagram} (j i : ℕ) → Valid d → outFault d j i ≡ 0 → Valid (withOut d i)
 
 -- what a node's line says of the diagram before it: of a node of id i
-record Fits (d : Diagram) (i : ℕ) (n : Node) : Type 0 where
+record NodeFits (d : Diagram) (i : ℕ) (n : Node) : Type 0 where
   tests : n .x < d .switches
   low-below : n .l < i
   high-below : n .h < i
@@ -45,7 +45,7 @@ record Fits (d : Diagram) (i : ℕ) (n : Node) : Type 0 where
   high-unlike : alike (n .t) (labelAt d (n .h)) ≡ false
 
 -- a node of a diagram fits it, and a node that fits a diagram has its facts in any that has the same ids below it
-facts-fit : (d : Diagram) (i : ℕ) → NodeFacts d i → Fits d i (entry d i)
+facts-fit : (d : Diagram) (i : ℕ) → NodeFacts d i → NodeFits d i (entry d i)
 facts-fit d i f =
     record {
       tests = f .tests;
@@ -65,7 +65,7 @@ fit-facts :
     → e .switches ≡ d .switches
     → ((k : ℕ) → k < i → entry e k ≡ entry d k)
     → entry e i ≡ n
-    → Fits d i n
+    → NodeFits d i n
     → NodeFacts e i
 unfolding entry entries
 fit-facts d e i n v same at f =
@@ -94,7 +94,7 @@ child-later d x c within h =
     (below-or-not c 2)
 
 -- what no fault says of a node's line
-node-id : (d : Diagram) (i : ℕ) (n : Node) → nodeFault d i n ≡ 0 → i ≡ idCount d
+pub node-id : (d : Diagram) (i : ℕ) (n : Node) → nodeFault d i n ≡ 0 → i ≡ idCount d
 unfolding nodeFault
 node-id d i n h = eqb-true i (idCount d) (not-false (eqb i (idCount d)) (not-met 2 _ _ h))
 
@@ -102,7 +102,7 @@ node-new : (d : Diagram) (i : ℕ) (n : Node) → nodeFault d i n ≡ 0 → any-
 unfolding nodeFault
 node-new d i n h = not-met 7 _ _ (others 6 _ _ (others 5 _ _ (others 4 _ _ (others 3 _ _ (others 2 _ _ h)))))
 
-node-fits : (d : Diagram) (i : ℕ) (n : Node) → nodeFault d i n ≡ 0 → 1 ≤ n .t → n .t ≤ 3 → Fits d i n
+node-fits : (d : Diagram) (i : ℕ) (n : Node) → nodeFault d i n ≡ 0 → 1 ≤ n .t → n .t ≤ 3 → NodeFits d i n
 unfolding nodeFault
 node-fits d i n h least most =
     let h4 = others 2 _ _ h in
@@ -184,7 +184,7 @@ facts-bare v t h least most =
         ⊎-elim (λ (e : t ≡ 1). inl e) (λ (e : t ≡ 1 → ⊥). inr (omega arith)) (equal-or-not t 1)
 
 -- with one node more
-module _ (d : Diagram) (n : Node) (facts : Facts d) (none : d .outs ≡ []) (fits : Fits d (idCount d) n) (new : any-of (sameTest n) (d .nodes) ≡ false) where
+module _ (d : Diagram) (n : Node) (facts : Facts d) (none : d .outs ≡ []) (fits : NodeFits d (idCount d) n) (new : any-of (sameTest n) (d .nodes) ≡ false) where
   -- what holds of the new id and of each old id holds of each id
   by-age :
       (P : ℕ → Type 0)
@@ -292,9 +292,9 @@ module _ (d : Diagram) (i : ℕ) (facts : Facts d) (named : i < idCount d) (in-r
       }
 
 -- what no fault says of an output's line
-out-named : (d : Diagram) (j i : ℕ) → outFault d j i ≡ 0 → i < idCount d
+pub out-below : (d : Diagram) (j i : ℕ) → outFault d j i ≡ 0 → i < idCount d
 unfolding outFault
-out-named d j i h = ltb-true i (idCount d) (not-false (ltb i (idCount d)) (not-met 4 _ _ (others 2 _ _ h)))
+out-below d j i h = ltb-true i (idCount d) (not-false (ltb i (idCount d)) (not-met 4 _ _ (others 2 _ _ h)))
 
 out-in-row : (d : Diagram) (j i : ℕ) → outFault d j i ≡ 0 → labelAt d i ≡ 2 → ⊥
 unfolding outFault
@@ -305,4 +305,4 @@ valid-facts d (valid-bare v t h least most) = facts-bare v t h least most
 valid-facts d (valid-node {d = e} i n valid none h least most) =
     facts-node e n (valid-facts e valid) none (rw (node-id e i n h) at (node-fits e i n h least most)) (node-new e i n h)
 valid-facts d (valid-out {d = e} j i valid h) =
-    facts-out e i (valid-facts e valid) (out-named e j i h) (out-in-row e j i h)
+    facts-out e i (valid-facts e valid) (out-below e j i h) (out-in-row e j i h)

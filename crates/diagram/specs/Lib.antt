@@ -1,5 +1,5 @@
 -- The law, which the calls' contracts and the theorems rest on: Diagram, Walk, Wires, Faults, Facts.
--- Working definitions, which only inner contracts cite: Table, Seen.
+-- Working definitions, which only inner contracts cite: Table, Seen, and `Falls` in Walk.
 pub mod Diagram
 pub mod Walk
 pub mod Wires

@@ -15,6 +15,10 @@ use Rattle.diagram.specs.declared.WireTable.{WireTable}
 use Rattle.diagram.specs.Wires.{rowOf, columnOf, rowOwners, columnCount}
 use Rattle.diagram.specs.Faults.{unordered, sameTest, alike}
 
+-- how many numbers the table has
+abbrev pub tableLength : ℕ
+tableLength = 4 * maxIds
+
 -- the entry of an id
 unfoldable pub entryIn : List ℕ → ℕ → Node
 entryIn t i = record { x = getD t (4 * i) 0; l = getD t (4 * i + 1) 0; h = getD t (4 * i + 2) 0; t = getD t (4 * i + 3) 0 }
@@ -34,7 +38,7 @@ tabled t n outs =
 
 -- the table has its length, and its first two entries are the terminals'
 pub record Terminals (t : List ℕ) : Type 0 where
-  pub long : length t ≡ 4 * maxIds
+  pub long : length t ≡ tableLength
   pub zeroth : entryIn t 0 ≡ terminal ((entryIn t 0) .x) 0 0
   pub first : entryIn t 1 ≡ terminal ((entryIn t 0) .x) 1 ((entryIn t 1) .t)
 

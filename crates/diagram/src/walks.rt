@@ -6,7 +6,7 @@ ghost use mathlib.Core.Path.{_≡_};
 ghost use mathlib.Core.List.{[]};
 ghost use lib.ListN.{getD};
 ghost use lib.Dec.{eqb};
-ghost use Prim.Native.Nat.{_+_, _≤_, _<_};
+ghost use Prim.Native.Nat.{_≤_, _<_};
 ghost use Rattle.common.specs.Limits.{maxNodes, maxIds};
 ghost use Rattle.diagram.specs.Table.{tabled, Terminals, stepIn, Ends};
 ghost use Rattle.diagram.specs.Walk.{walkValue, Falls};

@@ -4,7 +4,7 @@ use Prim.Native.Nat.{ℕ, zero, suc, _+_, _-_, _*_, _/_, _%_, _≤_, _<_}
 use mathlib.Core.Path.{_≡_, refl, sym, ap, _∙_}
 use mathlib.Core.Logic.{⊎-elim}
 use mathlib.Core.Bool.{Bool, true, false, not, _||_}
-use mathlib.Core.Option.{some, none}
+use mathlib.Core.Option.{some}
 use mathlib.Core.List.{List, [], _∷_, _++_, append-nil}
 use native.Mathlib.Omega.{arith}
 use lib.ListN.{length, drop}
@@ -14,16 +14,12 @@ use borrow.Author.Tests.{leb-true, le-leb, ne-eqb, lt-ltb, le-ltb, not-true}
 use Rattle.common.specs.Lists.{all-of}
 use Rattle.common.proofs.Lists.{by-test, and-left, and-right, and-both, or-right, true-or-false, below-or-not}
 use Rattle.figures.specs.Figure.{isDigit, digitsOf, isFigure, numberFrom, Figured, takeFigure, digits, decimal}
+use Rattle.figures.proofs.Digits.{digit-range, digitsOf-digit, digitsOf-other, take-is, take-not}
 
 -- whether a text does not begin with a digit
 unfoldable pub noDigit : List ℕ → Bool
 noDigit [] = true
 noDigit (b ∷ s) = not (isDigit b)
-
-pub digit-range : (b : ℕ) → isDigit b ≡ true → (48 ≤ b) × (b ≤ 57)
-unfolding isDigit
-digit-range b h =
-    (leb-true 48 b (and-left (leb 48 b) (leb b 57) h), leb-true b 57 (and-right (leb 48 b) (leb b 57) h))
 
 digit-is : (d : ℕ) → d < 10 → isDigit (48 + d) ≡ true
 unfolding isDigit
@@ -41,11 +37,11 @@ tenTo-positive zero = omega arith
 tenTo-positive (suc k) = omega (arith, tenTo-positive k)
 
 -- the two cases of a digit's place: the first digit, or a digit after the others
-digits-one : (k n : ℕ) (s : List ℕ) → n < 10 → digits (suc k) n s ≡ (48 + n) ∷ s
+pub digits-one : (k n : ℕ) (s : List ℕ) → n < 10 → digits (suc k) n s ≡ (48 + n) ∷ s
 unfolding digits
 digits-one k n s h = rw (lt-ltb n 10 h, digits)
 
-digits-more : (k n : ℕ) (s : List ℕ) → 10 ≤ n → digits (suc k) n s ≡ digits k (n / 10) ((48 + n % 10) ∷ s)
+pub digits-more : (k n : ℕ) (s : List ℕ) → 10 ≤ n → digits (suc k) n s ≡ digits k (n / 10) ((48 + n % 10) ∷ s)
 unfolding digits
 digits-more k n s h = rw (le-ltb n 10 h, digits)
 
@@ -91,7 +87,7 @@ digits-number (suc k) n s h =
     (below-or-not n 10)
 
 -- there are at most as many digits as places
-digits-length : (k n : ℕ) (s : List ℕ) → length (digits k n s) ≤ k + length s
+pub digits-length : (k n : ℕ) (s : List ℕ) → length (digits k n s) ≤ k + length s
 digits-length zero n s = unfold digits in omega arith
 digits-length (suc k) n s =
     ⊎-elim
@@ -134,24 +130,7 @@ decimal-figure (suc n) h =
     (unfold tenTo in digits-lead 5 (suc n) [] (omega arith) h)
     (digits-length 5 (suc n) [])
 
--- a decimal has 1 to 5 digits
-figure-some : (ds : List ℕ) → isFigure ds ≡ true → 1 ≤ length ds
-unfolding isFigure
-figure-some [] f = absurd (let z : _≡_ {A = ℕ} 0 1 = cc in omega arith)
-figure-some (b ∷ ds) f = omega arith
-
-pub decimal-length : (n : ℕ) → n < 100000 → (1 ≤ length (decimal n)) × (length (decimal n) ≤ 5)
-decimal-length n h = (figure-some (decimal n) (decimal-figure n h), unfold decimal in digits-length 5 n [])
-
 -- all the digits in front of a text that begins with none are the digits that the whole begins with
-digitsOf-digit : (b : ℕ) (s : List ℕ) → isDigit b ≡ true → digitsOf (b ∷ s) ≡ b ∷ digitsOf s
-unfolding digitsOf
-digitsOf-digit b s h = rw (h, digitsOf)
-
-digitsOf-other : (b : ℕ) (s : List ℕ) → isDigit b ≡ false → digitsOf (b ∷ s) ≡ []
-unfolding digitsOf
-digitsOf-other b s h = rw (h, digitsOf)
-
 digitsOf-front : (ds s : List ℕ) → all-of isDigit ds ≡ true → noDigit s ≡ true → digitsOf (ds ++ s) ≡ ds
 unfolding all-of
 digitsOf-front [] [] h k = unfold digitsOf in refl
@@ -159,18 +138,6 @@ digitsOf-front [] (b ∷ s) h k = unfold noDigit in digitsOf-other b s (not-true
 digitsOf-front (b ∷ ds) s h k =
     digitsOf-digit b (ds ++ s) (and-left (isDigit b) (all-of isDigit ds) h)
     ∙ ap (λ (r : List ℕ). b ∷ r) (digitsOf-front ds s (and-right (isDigit b) (all-of isDigit ds) h) k)
-
--- the two cases of the digits that a text begins with: a figure, or not
-takes-there :
-    (s : List ℕ)
-    → isFigure (digitsOf s) ≡ true
-    → takeFigure s ≡ some (record { figure = numberFrom 0 (digitsOf s); rest = drop (length (digitsOf s)) s })
-unfolding takeFigure
-takes-there s h = rw (h, takeFigure)
-
-takes-none : (s : List ℕ) → isFigure (digitsOf s) ≡ false → takeFigure s ≡ none
-unfolding takeFigure
-takes-none s h = rw (h, takeFigure)
 
 takes-front :
     (ds s : List ℕ)
@@ -180,7 +147,7 @@ takes-front :
     → takeFigure (ds ++ s) ≡ some (record { figure = numberFrom 0 ds; rest = s })
 takes-front ds s f h k =
     let e = digitsOf-front ds s h k in
-    takes-there (ds ++ s) (ap isFigure e ∙ f) ∙ rw (e, drop-at ds s (length ds) refl)
+    take-is (ds ++ s) (ap isFigure e ∙ f) ∙ rw (e, drop-at ds s (length ds) refl)
 
 pub takes-decimal :
     (n : ℕ) (s : List ℕ)
@@ -305,12 +272,12 @@ pub decimal-taken :
 decimal-taken s f e =
     ⊎-elim
     (λ (h : isFigure (digitsOf s) ≡ true).
-    let g = takes-there s h in
+    let g = take-is s h in
     let n : numberFrom 0 (digitsOf s) ≡ f .figure = cc in
     let r : drop (length (digitsOf s)) s ≡ f .rest = cc in
     let d : decimal (f .figure) ≡ digitsOf s = ap decimal (sym n) ∙ figure-decimal (digitsOf s) h (digitsOf-bytes s) in
     (rw (d, ← r) (sym (digitsOf-rest s)), rw n at (figure-below (digitsOf s) h (digitsOf-bytes s))))
     (λ (h : isFigure (digitsOf s) ≡ false).
-    let g = takes-none s h in
+    let g = take-not s h in
     absurd (let z : _≡_ {A = ℕ} 0 1 = cc in omega arith))
     (by-test (isFigure (digitsOf s)))

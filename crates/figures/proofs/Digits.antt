@@ -37,24 +37,25 @@ digit-inside s i h =
     (λ (k : length s ≤ i). let e : getD s i 0 ≡ 0 = List·getD-eq-default s 0 k in absurd (omega (arith, digit-range (getD s i 0) h)))
     (below-or-not i (length s))
 
-digits-more : (b : ℕ) (s : List ℕ) → isDigit b ≡ true → digitsOf (b ∷ s) ≡ b ∷ digitsOf s
+-- the digits that a text begins with: one more digit, or none
+pub digitsOf-digit : (b : ℕ) (s : List ℕ) → isDigit b ≡ true → digitsOf (b ∷ s) ≡ b ∷ digitsOf s
 unfolding digitsOf
-digits-more b s h = rw (h, digitsOf)
+digitsOf-digit b s h = rw (h, digitsOf)
 
-digits-none : (b : ℕ) (s : List ℕ) → isDigit b ≡ false → digitsOf (b ∷ s) ≡ []
+pub digitsOf-other : (b : ℕ) (s : List ℕ) → isDigit b ≡ false → digitsOf (b ∷ s) ≡ []
 unfolding digitsOf
-digits-none b s h = rw (h, digitsOf)
+digitsOf-other b s h = rw (h, digitsOf)
 
--- the digits from a position on: one more digit, or none
+-- and from a position on
 pub digits-next : (s : List ℕ) (i : ℕ) → isDigit (getD s i 0) ≡ true → digitsOf (drop i s) ≡ getD s i 0 ∷ digitsOf (drop (i + 1) s)
 digits-next s i h =
     let k : i < length s = digit-inside s i h in
-    rw (add-one i, drop-cons s i 0) (digits-more (getD s i 0) (drop (suc i) s) h)
+    rw (add-one i, drop-cons s i 0) (digitsOf-digit (getD s i 0) (drop (suc i) s) h)
 
 pub digits-end : (s : List ℕ) (i : ℕ) → isDigit (getD s i 0) ≡ false → digitsOf (drop i s) ≡ []
 unfolding digitsOf
 digits-end s i h =
-    ⊎-elim (λ (k : i < length s). rw (drop-cons s i 0) (digits-none (getD s i 0) (drop (suc i) s) h))
+    ⊎-elim (λ (k : i < length s). rw (drop-cons s i 0) (digitsOf-other (getD s i 0) (drop (suc i) s) h))
     (λ (k : length s ≤ i). ap digitsOf (drop-of-length-le s k))
     (below-or-not i (length s))
 
@@ -63,8 +64,8 @@ digits-first : (s : List ℕ) → 0 < length (digitsOf s) → getD (digitsOf s) 
 unfolding digitsOf
 digits-first [] h = refl
 digits-first (b ∷ s) h =
-    ⊎-elim (λ (e : isDigit b ≡ true). ap (λ (l : List ℕ). getD l 0 0) (digits-more b s e))
-    (λ (e : isDigit b ≡ false). let l : length (digitsOf (b ∷ s)) ≡ 0 = ap length (digits-none b s e) in absurd (omega arith))
+    ⊎-elim (λ (e : isDigit b ≡ true). ap (λ (l : List ℕ). getD l 0 0) (digitsOf-digit b s e))
+    (λ (e : isDigit b ≡ false). let l : length (digitsOf (b ∷ s)) ≡ 0 = ap length (digitsOf-other b s e) in absurd (omega arith))
     (by-test (isDigit b))
 
 -- which digits are a figure
@@ -190,15 +191,16 @@ unfolding digitsOf
 length-digits [] = omega arith
 length-digits (b ∷ s) =
     let k : length (digitsOf s) ≤ length s = length-digits s in
-    ⊎-elim (λ (e : isDigit b ≡ true). omega (arith, ap length (digits-more b s e)))
-    (λ (e : isDigit b ≡ false). omega (arith, ap length (digits-none b s e)))
+    ⊎-elim (λ (e : isDigit b ≡ true). omega (arith, ap length (digitsOf-digit b s e)))
+    (λ (e : isDigit b ≡ false). omega (arith, ap length (digitsOf-other b s e)))
     (by-test (isDigit b))
 
-take-is : (s : List ℕ) → isFigure (digitsOf s) ≡ true → takeFigure s ≡ some (record { figure = numberFrom 0 (digitsOf s); rest = drop (length (digitsOf s)) s })
+-- the two cases of the digits that a text begins with: a figure, or not
+pub take-is : (s : List ℕ) → isFigure (digitsOf s) ≡ true → takeFigure s ≡ some (record { figure = numberFrom 0 (digitsOf s); rest = drop (length (digitsOf s)) s })
 unfolding takeFigure
 take-is s h = rw (h, takeFigure)
 
-take-not : (s : List ℕ) → isFigure (digitsOf s) ≡ false → takeFigure s ≡ none
+pub take-not : (s : List ℕ) → isFigure (digitsOf s) ≡ false → takeFigure s ≡ none
 unfolding takeFigure
 take-not s h = rw (h, takeFigure)
 

@@ -1,4 +1,5 @@
--- Where a line ends: the position found byte by byte, and that the lines of a text begin with the bytes up to that position.
+-- Where a line ends: the position found byte by byte, that the lines of a text begin with the bytes up to that position, and where bytes
+-- follow it.
 use Prim.Native.Nat.{ℕ, suc, _+_, _-_, _<_, _≤_}
 use mathlib.Core.Path.{_≡_, refl, ap, _∙_}
 use mathlib.Core.Bool.{true, false, not}
@@ -12,8 +13,8 @@ use lib.Dec.{eqb}
 use borrow.Author.Tests.{eq-eqb, ne-eqb, not-true}
 use Rattle.common.specs.Lists.{all-of}
 use Rattle.common.proofs.Lists.{by-test, and-left, and-right}
-use Rattle.figures.specs.Line.{left, _⏎_, onto, linesOf, beforeFeed, lineEnd}
-use Rattle.figures.proofs.Line.{oneLine}
+use Rattle.figures.specs.Line.{Lines, left, _⏎_, onto, linesOf, follows, beforeFeed, lineEnd}
+use Rattle.figures.proofs.Line.{oneLine, lines-feed, lines-byte}
 
 feed-first : (b : ℕ) (s : List ℕ) → eqb b 10 ≡ true → beforeFeed (b ∷ s) ≡ 0
 unfolding beforeFeed
@@ -22,14 +23,6 @@ feed-first b s e = rw (e, beforeFeed)
 feed-next : (b : ℕ) (s : List ℕ) → eqb b 10 ≡ false → beforeFeed (b ∷ s) ≡ suc (beforeFeed s)
 unfolding beforeFeed
 feed-next b s e = rw (e, beforeFeed)
-
-lines-first : (b : ℕ) (s : List ℕ) → eqb b 10 ≡ true → linesOf (b ∷ s) ≡ [] ⏎ linesOf s
-unfolding linesOf
-lines-first b s e = rw (e, linesOf)
-
-lines-next : (b : ℕ) (s : List ℕ) → eqb b 10 ≡ false → linesOf (b ∷ s) ≡ onto b (linesOf s)
-unfolding linesOf
-lines-next b s e = rw (e, linesOf)
 
 -- at a line feed, the line ends
 pub end-here : (s : List ℕ) (i : ℕ) → i < length s → getD s i 0 ≡ 10 → lineEnd s i ≡ i
@@ -76,11 +69,11 @@ feed-lines : (s : List ℕ) → beforeFeed s < length s → linesOf s ≡ take (
 unfolding onto
 feed-lines [] h = absurd (omega arith)
 feed-lines (b ∷ s) h =
-    ⊎-elim (λ (e : eqb b 10 ≡ true). rw (lines-first b s e, feed-first b s e))
+    ⊎-elim (λ (e : eqb b 10 ≡ true). rw (lines-feed b s e, feed-first b s e))
     (λ (e : eqb b 10 ≡ false).
     let n : beforeFeed (b ∷ s) ≡ suc (beforeFeed s) = feed-next b s e in
     let k : beforeFeed s < length s = omega arith in
-    rw (lines-next b s e, feed-next b s e, feed-lines s k))
+    rw (lines-byte b s e, feed-next b s e, feed-lines s k))
     (by-test (eqb b 10))
 
 no-feed : (s : List ℕ) → length s ≤ beforeFeed s → linesOf s ≡ left s
@@ -91,7 +84,7 @@ no-feed (b ∷ s) h =
     (λ (e : eqb b 10 ≡ false).
     let n : beforeFeed (b ∷ s) ≡ suc (beforeFeed s) = feed-next b s e in
     let k : length s ≤ beforeFeed s = omega arith in
-    lines-next b s e ∙ ap (onto b) (no-feed s k))
+    lines-byte b s e ∙ ap (onto b) (no-feed s k))
     (by-test (eqb b 10))
 
 module _ (s : List ℕ) (at : ℕ) where
@@ -109,3 +102,23 @@ module _ (s : List ℕ) (at : ℕ) where
   pub line-left : length s ≤ lineEnd s at → linesOf (drop at s) ≡ left (drop at s)
   unfolding lineEnd
   line-left h = no-feed (drop at s) (omega (arith, length-drop at s))
+
+-- bytes follow a position just where it is before the text's end
+follows-onto : (b : ℕ) (ls : Lines) → follows (onto b ls) ≡ true
+unfolding onto follows
+follows-onto b (left s) = refl
+follows-onto b (l ⏎ ls) = refl
+
+follows-byte : (b : ℕ) (s : List ℕ) → follows (linesOf (b ∷ s)) ≡ true
+unfolding follows
+follows-byte b s =
+    ⊎-elim (λ (e : eqb b 10 ≡ true). rw (lines-feed b s e))
+    (λ (e : eqb b 10 ≡ false). rw (lines-byte b s e) (follows-onto b (linesOf s)))
+    (by-test (eqb b 10))
+
+pub follows-yes : (s : List ℕ) (at : ℕ) → at < length s → follows (linesOf (drop at s)) ≡ true
+follows-yes s at h = rw (drop-cons s at 0 h) (follows-byte (getD s at 0) (drop (suc at) s))
+
+pub follows-no : (s : List ℕ) (at : ℕ) → length s ≤ at → follows (linesOf (drop at s)) ≡ false
+unfolding linesOf follows
+follows-no s at h = rw (drop-of-length-le s h)

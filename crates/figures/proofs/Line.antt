@@ -11,6 +11,11 @@ use Rattle.common.specs.Lists.{all-of}
 use Rattle.common.proofs.Lists.{by-test, and-left, and-right, and-both}
 use Rattle.figures.specs.Line.{Lines, left, _⏎_, onto, linesOf, follows}
 
+-- the lines after the first
+unfoldable pub afterFirst : Lines → Lines
+afterFirst (left s) = left s
+afterFirst (l ⏎ ls) = ls
+
 -- whether no byte is a line feed
 unfoldable pub oneLine : List ℕ → Bool
 oneLine l = all-of (λ b. not (eqb b 10)) l
@@ -21,11 +26,11 @@ textOf (left s) = s
 textOf (l ⏎ ls) = l ++ (10 ∷ textOf ls)
 
 -- the two cases of a byte: a line feed, or a byte of the first line
-lines-feed : (b : ℕ) (s : List ℕ) → eqb b 10 ≡ true → linesOf (b ∷ s) ≡ [] ⏎ linesOf s
+pub lines-feed : (b : ℕ) (s : List ℕ) → eqb b 10 ≡ true → linesOf (b ∷ s) ≡ [] ⏎ linesOf s
 unfolding linesOf
 lines-feed b s h = rw (h, linesOf)
 
-lines-byte : (b : ℕ) (s : List ℕ) → eqb b 10 ≡ false → linesOf (b ∷ s) ≡ onto b (linesOf s)
+pub lines-byte : (b : ℕ) (s : List ℕ) → eqb b 10 ≡ false → linesOf (b ∷ s) ≡ onto b (linesOf s)
 unfolding linesOf
 lines-byte b s h = rw (h, linesOf)
 
@@ -107,9 +112,3 @@ first-line (b ∷ s) l ls h =
     let g : onto b (linesOf s) ≡ l ⏎ ls = sym (lines-byte b s e) ∙ h in
     onto-first b s l ls (linesOf s) e (first-line s) g)
     (by-test (eqb b 10))
-
--- the lines after the first are the lines of their text
-pub lines-text : (s l : List ℕ) (ls : Lines) → linesOf s ≡ l ⏎ ls → ls ≡ linesOf (textOf ls)
-lines-text s l ls h =
-    let f = first-line s l ls h in
-    f .others ∙ ap linesOf (sym (text-lines (f .remains)) ∙ ap textOf (sym (f .others)))

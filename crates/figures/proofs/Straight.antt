@@ -1,4 +1,4 @@
--- A figure of at most three digits, by the values of its digits.
+-- A figure of at most two digits, by the values of its digits.
 use Prim.Native.Nat.{ℕ, _+_, _-_, _*_, _<_, _≤_}
 use mathlib.Core.Path.{_≡_, refl, sym, ap, _∙_}
 use mathlib.Core.Bool.{true, false}
@@ -91,13 +91,3 @@ module _ (s : List ℕ) (at a : ℕ) (ea : a ≡ digitValue (getD s at 0)) where
         pub straight-two : 9 < c → figurePast s at ≡ record { value = a * 10 + b; next = at + 2 }
         straight-two h =
             past-at s at (a * 10 + b) (at + 2) (reading-several read-two (value-other (getD s (at + 2) 0) c ec h) (omega arith) no-zero)
-
-        module _ (hc : c ≤ 9) (d : ℕ) (ed : d ≡ digitValue (getD s (at + 3) 0)) where
-          read-three : Reading s at ((a * 10 + b) * 10 + c) (at + 3)
-          read-three =
-              let e : at + 2 + 1 ≡ at + 3 = omega arith in
-              rw (sym e) (reading-value read-two c ec hc (omega arith))
-
-          pub straight-three : 9 < d → figurePast s at ≡ record { value = (a * 10 + b) * 10 + c; next = at + 3 }
-          straight-three h =
-              past-at s at ((a * 10 + b) * 10 + c) (at + 3) (reading-several read-three (value-other (getD s (at + 3) 0) d ed h) (omega arith) no-zero)

@@ -4,22 +4,23 @@ use mathlib.Core.Path.{_≡_, refl, sym, ap, _∙_}
 use mathlib.Core.Bool.{true, false}
 use mathlib.Core.Option.{Option, some, none}
 use mathlib.Core.Logic.{⊎-elim}
-use mathlib.Core.List.{List, [], _∷_}
+use mathlib.Core.List.{List, [], _∷_, _++_}
 use native.Mathlib.Omega.{arith}
 use native.Mathlib.Numerals.{add-one}
 use lib.ListN.{length, getD, drop, drop-of-length-le}
-use lib.Seq.{drop-cons, drop-drop}
+use lib.Seq.{drop-cons, drop-drop, drop-at}
 use lib.Dec.{eqb}
-use borrow.Author.Tests.{eq-eqb, ne-eqb}
+use borrow.Author.Tests.{eqb-true, eq-eqb, ne-eqb}
 use Rattle.common.proofs.Lists.{by-test}
 use Rattle.figures.specs.Bytes.{after}
 use Rattle.figures.specs.Position.{given, stands}
 
-after-same : (a b : ℕ) (w s : List ℕ) → eqb a b ≡ true → after (a ∷ w) (b ∷ s) ≡ after w s
+-- the two cases of a word's first byte
+pub after-same : (a b : ℕ) (w s : List ℕ) → eqb a b ≡ true → after (a ∷ w) (b ∷ s) ≡ after w s
 unfolding after
 after-same a b w s e = rw (e, after)
 
-after-other : (a b : ℕ) (w s : List ℕ) → eqb a b ≡ false → after (a ∷ w) (b ∷ s) ≡ none
+pub after-other : (a b : ℕ) (w s : List ℕ) → eqb a b ≡ false → after (a ∷ w) (b ∷ s) ≡ none
 unfolding after
 after-other a b w s e = rw (e, after)
 
@@ -50,15 +51,27 @@ module _ (w s : List ℕ) (j i : ℕ) where
       rw (add-one j, add-one i, drop-cons w j 0, drop-cons s i 0)
       (after-same (getD w j 0) (getD s i 0) (drop (suc j) w) (drop (suc i) s) (eq-eqb _ _ (sym e)))
 
--- what follows a word
-after-rest : (w s t : List ℕ) → after w s ≡ some t → t ≡ drop (length w) s
-unfolding after
-after-rest [] s t e = cc
-after-rest (a ∷ w) [] t e = absurd (let z : _≡_ {A = ℕ} 0 1 = cc in omega arith)
-after-rest (a ∷ w) (b ∷ s) t e =
-    ⊎-elim (λ (f : eqb a b ≡ true). after-rest w s t (sym (after-same a b w s f) ∙ e))
-    (λ (f : eqb a b ≡ false). absurd (let n : after (a ∷ w) (b ∷ s) ≡ none = after-other a b w s f in let z : _≡_ {A = ℕ} 0 1 = cc in omega arith))
+-- a word is taken from the front of a text just where it stands there, and what follows it is the rest
+pub after-front : (w s : List ℕ) → after w (w ++ s) ≡ some s
+after-front [] s = unfold after in refl
+after-front (a ∷ w) s = after-same a a w (w ++ s) (eq-eqb a a refl) ∙ after-front w s
+
+pub after-taken : (w s r : List ℕ) → after w s ≡ some r → s ≡ w ++ r
+after-taken [] s r h = unfold after in cc
+after-taken (a ∷ w) [] r h = unfold after in absurd (let z : _≡_ {A = ℕ} 0 1 = cc in omega arith)
+after-taken (a ∷ w) (b ∷ s) r h =
+    ⊎-elim
+    (λ (e : eqb a b ≡ true).
+    let p = after-taken w s r (sym (after-same a b w s e) ∙ h) in
+    let q = eqb-true a b e in
+    cc)
+    (λ (e : eqb a b ≡ false).
+    let g = after-other a b w s e in
+    absurd (let z : _≡_ {A = ℕ} 0 1 = cc in omega arith))
     (by-test (eqb a b))
+
+after-rest : (w s t : List ℕ) → after w s ≡ some t → t ≡ drop (length w) s
+after-rest w s t e = sym (ap (drop (length w)) (after-taken w s t e) ∙ drop-at w t (length w) refl)
 
 module _ (w s : List ℕ) (at : ℕ) where
   -- a word that stands at a position is followed by the bytes past its length

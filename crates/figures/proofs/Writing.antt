@@ -13,6 +13,7 @@ use borrow.Author.Tests.{lt-ltb, le-ltb}
 use Rattle.common.proofs.Lists.{by-test, below-or-not}
 use Rattle.figures.specs.Figure.{digits, decimal}
 use Rattle.figures.specs.Position.{splice}
+use Rattle.figures.proofs.Decimals.{digits-one, digits-more, digits-length}
 
 module _ (s : List ℕ) (at : ℕ) where
   -- what is written changes no length
@@ -80,14 +81,6 @@ count-last : (n : ℕ) → count 1 n ≡ 1
 unfolding count
 count-last n = ⊎-elim (λ (e : ltb n 10 ≡ true). rw (e, count)) (λ (e : ltb n 10 ≡ false). rw (e, count)) (by-test (ltb n 10))
 
-digits-one : (k n : ℕ) (s : List ℕ) → n < 10 → digits (suc k) n s ≡ (48 + n) ∷ s
-unfolding digits
-digits-one k n s h = rw (lt-ltb n 10 h, digits)
-
-digits-more : (k n : ℕ) (s : List ℕ) → 10 ≤ n → digits (suc k) n s ≡ digits k (n / 10) ((48 + n % 10) ∷ s)
-unfolding digits
-digits-more k n s h = rw (le-ltb n 10 h, digits)
-
 digits-last : (k n : ℕ) (s : List ℕ) → digits k n s ≡ last (count k n) n s
 unfolding last count digits
 digits-last zero n s = refl
@@ -106,17 +99,10 @@ length-decimal : (n : ℕ) → length (decimal n) ≡ count 5 n
 unfolding decimal
 length-decimal n = ap length (digits-last 5 n []) ∙ length-last (count 5 n) n [] ∙ omega arith
 
-count-most : (k n : ℕ) → count k n ≤ k
-unfolding count
-count-most zero n = omega arith
-count-most (suc k) n =
-    ⊎-elim (λ (h : n < 10). rw (count-one k n h) (omega arith))
-    (λ (h : 10 ≤ n). let m : count k (n / 10) ≤ k = count-most k (n / 10) in rw (count-more k n h) (omega arith))
-    (below-or-not n 10)
-
 module _ (n : ℕ) where
   pub length-most : length (decimal n) ≤ 5
-  length-most = rw (length-decimal n) (count-most 5 n)
+  unfolding decimal
+  length-most = digits-length 5 n []
 
   pub length-one : n < 10 → length (decimal n) ≡ 1
   length-one h = length-decimal n ∙ count-one 4 n h

@@ -27,11 +27,6 @@ follows (left []) = false
 follows (left (b ∷ s)) = true
 follows (l ⏎ ls) = true
 
--- the lines after the first
-unfoldable pub afterFirst : Lines → Lines
-afterFirst (left s) = left s
-afterFirst (l ⏎ ls) = ls
-
 -- how many bytes stand before the first line feed; all of them where there is none
 unfoldable pub beforeFeed : List ℕ → ℕ
 beforeFeed [] = 0

@@ -128,7 +128,7 @@ pub struct Past {
 }
 
 // The figure at `at`, whatever its length.
-fn any_figure_past(text: &[u8], at: usize) -> Past
+pub fn any_figure_past(text: &[u8], at: usize) -> Past
     ensures { λ r. ⌜ r ≡ figurePast (now (text .entry)) at ⌝ }
 {
     let Figure::At { value, next } = read_figure(text, at) else {
@@ -157,7 +157,8 @@ fn digit_value(text: &[u8], i: usize) -> u32
     (b - ZERO) as u32
 }
 
-// The figure at `at`. Most figures have at most three digits: those are read without a loop.
+// The figure at `at`. A figure of one or two digits is read without a loop, and by so little code that the compiler puts it into the
+// functions that read many lines.
 pub fn figure_past(text: &[u8], at: usize) -> Past
     ensures { λ r. ⌜ r ≡ figurePast (now (text .entry)) at ⌝ }
 {
@@ -186,13 +187,6 @@ pub fn figure_past(text: &[u8], at: usize) -> Past
         return Past {
             value: a * 10 + b,
             next: at + 2,
-        };
-    }
-    let d = digit_value(text, at + 3);
-    if 9 < d {
-        return Past {
-            value: (a * 10 + b) * 10 + c,
-            next: at + 3,
         };
     }
     any_figure_past(text, at)

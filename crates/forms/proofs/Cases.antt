@@ -3,7 +3,7 @@ use Prim.Native.Nat.{ℕ}
 use mathlib.Core.Path.{_≡_, refl, subst, _∙_}
 use mathlib.Core.Logic.{⊎-elim}
 use mathlib.Core.Bool.{true, false, not}
-use mathlib.Core.Option.{some, none}
+use mathlib.Core.Option.{none}
 use mathlib.Core.List.{List, [], _∷_}
 use native.Mathlib.Omega.{arith}
 use lib.Dec.{T, eqb}
@@ -14,7 +14,7 @@ use denote.Enum.Declared.{tagOf}
 use Rattle.common.proofs.Lists.{by-test}
 use Rattle.forms.specs.declared.Form.{Form}
 use Rattle.forms.specs.declared.Form.the-variants as form
-use Rattle.forms.proofs.Sorts.{kindOf, valuesIn, ofKind, asJob, asOne, asNode, asOut, asEnd, asSize, asCell}
+use Rattle.forms.proofs.Sorts.{kindOf, ofKind, asJob, asOne, asNode, asOut, asEnd, asSize, asCell}
 use Rattle.forms.proofs.Form.{the-type}
 
 -- a form of another kind has no values of this kind

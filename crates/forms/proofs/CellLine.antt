@@ -6,23 +6,23 @@ use mathlib.Core.Logic.{⊎-elim}
 use mathlib.Core.Option.{Option, some, none}
 use mathlib.Core.List.{List, [], _∷_}
 use native.Mathlib.Omega.{arith}
-use lib.ListN.{length, getD, drop}
+use lib.ListN.{length, drop}
 use lib.Dec.{eqb}
 use borrow.Author.Tests.{ne-eqb, eqb-true, eqb-false}
 use Rattle.common.proofs.Lists.{by-test}
-use Rattle.common.specs.Outcome.{Outcome, done, refused}
+use Rattle.common.specs.Outcome.{done, refused}
 use Rattle.figures.specs.Line.{Lines, left, _⏎_, linesOf, lineEnd}
 use Rattle.figures.specs.declared.Past.{Past}
 use Rattle.figures.specs.Bytes.{bytes}
 use Rattle.figures.specs.Past.{nowhere, wordPast, figurePast}
 use Rattle.cells.specs.declared.Cell.the-variants.{On, Yes, No}
 use Rattle.forms.specs.Template.{Template, Item, word, figure, values}
-use Rattle.forms.specs.Due.{Taken, due}
+use Rattle.forms.specs.Due.{due}
 use Rattle.forms.specs.Forms.{onForm, yesForm, noForm}
-use Rattle.forms.specs.Form.{Placed, placed, switchOf}
+use Rattle.forms.specs.Form.{placed, switchOf}
 use Rattle.forms.specs.Read.{cappedCell, cellForm, placedIn, cellReadOf, cellRead, readTo}
 use Rattle.forms.proofs.Template.{apart, on-apart, yes-apart, no-apart, due-line}
-use Rattle.forms.proofs.Steps.{Stepped, steps, steps-due, steps-refused, Run, then-word, then-figure, run-steps}
+use Rattle.forms.proofs.Steps.{steps, steps-due, steps-refused, Run, then-word, then-figure, run-steps}
 
 -- what the three forms begin with
 pub cell-run :
@@ -35,9 +35,9 @@ pub cell-run :
     → Run s (word "(cell " ∷ figure ∷ word " " ∷ figure ∷ i ∷ t) at (p .value ∷ q .value ∷ vs) m
 cell-run e f g h r = then-word e (then-figure f (then-word g (then-figure h r)))
 
-no-values : (t : Template) (n k m : ℕ) (l : List ℕ) (ls : Lines) → due t n (l ⏎ ls) ≡ refused k m → values t l ≡ none
+refused-none : (t : Template) (n k m : ℕ) (l : List ℕ) (ls : Lines) → due t n (l ⏎ ls) ≡ refused k m → values t l ≡ none
 unfolding due
-no-values t n k m l ls h = by (values t l) refl
+refused-none t n k m l ls h = by (values t l) refl
   where
     by : (o : Option (List ℕ)) → values t l ≡ o → values t l ≡ none
     by none e = e
@@ -53,7 +53,7 @@ module _ (s : List ℕ) (at n : ℕ) (short : length s < nowhere) where
       (l .0, _, l .1, l .2, d .1)
 
   other : (t : Template) → apart t ≡ true → steps t s at .next ≡ nowhere → (l : List ℕ) (later : Lines) → linesOf (drop at s) ≡ l ⏎ later → values t l ≡ none
-  other t a h l later e = no-values t n 1 n l later (ap (due t n) (sym e) ∙ steps-refused t s at n a short h)
+  other t a h l later e = refused-none t n 1 n l later (ap (due t n) (sym e) ∙ steps-refused t s at n a short h)
 
   module _ {r c m : ℕ} (run : Run s onForm at (r ∷ c ∷ []) m) where
     pub cell-on : (m ≡ nowhere → ⊥) → readTo (cellForm r c On) m n ≡ cellRead s at n

@@ -2,15 +2,13 @@
 use Prim.Native.Nat.{ℕ, _+_, _<_, _≤_}
 use mathlib.Core.Path.{_≡_, refl, sym, ap, _∙_}
 use mathlib.Core.Logic.{⊎-elim}
-use mathlib.Core.Bool.{true, false}
-use mathlib.Core.Option.{Option, some, none}
-use mathlib.Core.List.{List, [], _∷_}
+use mathlib.Core.Option.{some, none}
+use mathlib.Core.List.{List}
 use native.Mathlib.Omega.{arith}
 use lib.ListN.{length, drop}
-use lib.Dec.{eqb}
 use Rattle.common.specs.Outcome.{Outcome, done, refused}
 use Rattle.common.proofs.Lists.{below-or-not}
-use Rattle.figures.specs.Line.{Lines, left, _⏎_, linesOf, afterFirst, lineEnd}
+use Rattle.figures.specs.Line.{Lines, _⏎_, linesOf, lineEnd}
 use Rattle.figures.proofs.Ends.{line-ended, line-left, not-before}
 use Rattle.forms.specs.declared.Form.{Form}
 use Rattle.forms.specs.declared.LineRead.{LineRead}
@@ -20,12 +18,13 @@ use Rattle.forms.specs.Form.{jobFrom, oneFrom, nodeFrom, outFrom, endFro
 use Rattle.forms.specs.Forms.{jobForm, oneForm, nodeForm, outForm, endForm, crossbarForm}
 use Rattle.forms.specs.Read.{readOf, lineRead, refusalIn}
 use Rattle.forms.proofs.Sorts.{ofKind, kindOf, valuesIn}
-use Rattle.forms.proofs.Template.{Fits, due-line, due-fits, job-values, one-values, node-values, out-values, end-values, crossbar-values}
+use Rattle.forms.proofs.Template.{FitsTemplate, due-line, due-fits, job-values, one-values, node-values, out-values, end-values, crossbar-values}
 use Rattle.forms.proofs.Steps.{only-refused}
+use Rattle.figures.proofs.Line.{afterFirst}
 
 -- the forms of one kind hold just the values of their template
 pub record Kind (k : ℕ) (t : Template) (f : List ℕ → Form) : Type 0 where
-  pub holds : (vs : List ℕ) → Fits t vs → ofKind k (f vs) ≡ some vs
+  pub holds : (vs : List ℕ) → FitsTemplate t vs → ofKind k (f vs) ≡ some vs
   pub no-refusal : (n : ℕ) → ofKind k (notDue n) ≡ none
 
 pub job-kind : Kind 0 jobForm (λ vs. jobFrom vs)

@@ -51,12 +51,12 @@ written-then {s} {t} {u} {v} {w} {at} {n} {m} f g =
     }
 
 -- the parts of a line one after the other: words with a figure after each, and the last word with the line feed
-pub data Parts : Template → List ℕ → List ℕ → List ℕ → ℕ → ℕ → Type 0 where
-  last-part : {w : String} {s t : List ℕ} {at n : ℕ} → Written s t at (bytes w ++ (10 ∷ [])) n → Parts (word w ∷ []) [] s t at n
+pub data PartsWritten : Template → List ℕ → List ℕ → List ℕ → ℕ → ℕ → Type 0 where
+  last-part : {w : String} {s t : List ℕ} {at n : ℕ} → Written s t at (bytes w ++ (10 ∷ [])) n → PartsWritten (word w ∷ []) [] s t at n
   then-part : {w : String} {i : Item} {r : Template} {v : ℕ} {vs s t u : List ℕ} {at n m : ℕ}
-      → Written s t at (bytes w ++ decimal v) n → Parts (i ∷ r) vs t u n m → Parts (word w ∷ figure ∷ i ∷ r) (v ∷ vs) s u at m
+      → Written s t at (bytes w ++ decimal v) n → PartsWritten (i ∷ r) vs t u n m → PartsWritten (word w ∷ figure ∷ i ∷ r) (v ∷ vs) s u at m
 
-pub written-line : {r : Template} {vs s t : List ℕ} {at n : ℕ} → Parts r vs s t at n → Written s t at (line r vs) n
+pub written-line : {r : Template} {vs s t : List ℕ} {at n : ℕ} → PartsWritten r vs s t at n → Written s t at (line r vs) n
 unfolding line written
 written-line (last-part {w = w} h) = written-as (ap (λ (l : List ℕ). l ++ (10 ∷ [])) (append-nil (bytes w))) h
 written-line (then-part {w = w} {i = i} {r = r} {v = v} {vs = vs} h p) =

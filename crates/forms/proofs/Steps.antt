@@ -1,10 +1,10 @@
 -- A line read step by step, each step from a position to the position past its word, figure or label: what the steps of a template
 -- give is the line due.
-use Prim.Native.Nat.{ℕ, _+_, _-_, _<_, _≤_}
+use Prim.Native.Nat.{ℕ, _+_, _<_, _≤_}
 use Prim.Native.String.{String}
 use mathlib.Core.Path.{_≡_, refl, sym, ap, _∙_}
 use mathlib.Core.Logic.{⊎-elim}
-use mathlib.Core.Bool.{Bool, true, false, _&&_}
+use mathlib.Core.Bool.{true, false}
 use mathlib.Core.Option.{Option, some, none}
 use mathlib.Core.List.{List, [], _∷_, _++_, append-assoc, append-nil}
 use native.Mathlib.Omega.{arith}
@@ -13,10 +13,10 @@ use lib.ListN.{length, getD, drop, length-append, length-drop, drop-of-length-le
 use lib.Seq.{drop-cons, drop-drop, drop-at}
 use lib.Dec.{eqb}
 use borrow.Author.Tests.{ne-eqb, eqb-true, eqb-false}
-use Rattle.common.specs.Outcome.{Outcome, done, refused}
+use Rattle.common.specs.Outcome.{done, refused}
 use Rattle.common.proofs.Lists.{by-test, and-left, and-right, below-or-not}
 use Rattle.figures.specs.Bytes.{bytes, after}
-use Rattle.figures.specs.Figure.{Figured, isDigit, takeFigure, decimal}
+use Rattle.figures.specs.Figure.{isDigit, takeFigure, decimal}
 use Rattle.figures.specs.declared.Past.{Past}
 use Rattle.figures.specs.Line.{Lines, left, _⏎_, linesOf, lineEnd, beforeFeed}
 use Rattle.figures.specs.Past.{nowhere, wordPast, figurePast}
@@ -24,13 +24,13 @@ use Rattle.figures.proofs.Decimals.{noDigit, takes-decimal, decimal-taken}
 use Rattle.figures.proofs.Ends.{feed-after}
 use Rattle.figures.proofs.Line.{oneLine}
 use Rattle.figures.proofs.Steps.{word-front, word-found, word-nowhere, figure-nowhere, figure-found, figure-front}
+use Rattle.figures.proofs.Words.{after-front, after-taken}
 use Rattle.forms.specs.declared.Form.{Form}
-use Rattle.forms.specs.declared.LineRead.{LineRead}
 use Rattle.forms.specs.Template.{Template, Item, word, figure, label, labelOf, letterOf, values, written, line}
 use Rattle.forms.specs.Due.{Taken, due}
 use Rattle.forms.specs.Read.{labelIn, labelPast, readTo, readOf, lineRead}
 use Rattle.forms.specs.Form.{notDue}
-use Rattle.forms.proofs.Template.{Fits, apart, closes, parts, parts-front, after-front, after-taken, letter-label, label-letter, written-line, due-taken, due-written}
+use Rattle.forms.proofs.Template.{FitsTemplate, apart, closes, parts-front, letter-label, label-letter, written-line, due-taken, due-written}
 
 -- the values that the steps of a template read from a position on, and the position past the line feed
 pub record Stepped : Type 0 where
@@ -113,13 +113,13 @@ module _ (s : List ℕ) (short : length s < nowhere) where
   -- a line of the template stands at a position
   record Stands (t : Template) (vs : List ℕ) (at next : ℕ) : Type 0 where
     text : drop at s ≡ line t vs ++ drop next s
-    fits : Fits t vs
+    fits : FitsTemplate t vs
     from : at < next
     inside : next ≤ length s
 
   -- steps that do not end nowhere have read a line
   steps-found : (t : Template) (at : ℕ) → (steps t s at .next ≡ nowhere → ⊥) → Stands t (steps t s at .vals) at (steps t s at .next)
-  unfolding steps Fits
+  unfolding steps FitsTemplate
   steps-found [] at h =
       let f = word-found (10 ∷ []) s at h in
       record { text = after-taken (10 ∷ []) (drop at s) _ (f .0) ∙ (unfold line written in refl); fits = tt; from = omega arith; inside = omega arith }
@@ -186,8 +186,8 @@ module _ (s : List ℕ) (short : length s < nowhere) where
   closes-line (label ∷ t) vs r h = absurd (let z : _≡_ {A = ℕ} 0 1 = cc in omega arith)
 
   -- where a line of the template stands, the steps end in the text
-  steps-inside : (t : Template) (vs r : List ℕ) (at : ℕ) → apart t ≡ true → Fits t vs → drop at s ≡ line t vs ++ r → steps t s at .next ≤ length s
-  unfolding steps Fits apart
+  steps-inside : (t : Template) (vs r : List ℕ) (at : ℕ) → apart t ≡ true → FitsTemplate t vs → drop at s ≡ line t vs ++ r → steps t s at .next ≤ length s
+  unfolding steps FitsTemplate apart
   steps-inside [] [] r at a f e = let k = word-step (10 ∷ []) r at (e ∙ (unfold line written in refl)) (omega arith) in omega arith
   steps-inside [] (v ∷ vs) r at a f e = absurd f
   steps-inside (word w ∷ []) vs r at a f e =

@@ -4,23 +4,25 @@ use Prim.Native.Nat.{ℕ, zero, suc, _+_, _≤_, _<_}
 use Prim.Native.String.{String}
 use mathlib.Core.Path.{_≡_, refl, sym, ap, _∙_}
 use mathlib.Core.Logic.{_⊎_, inl, inr, ⊎-elim}
-use mathlib.Core.Bool.{Bool, true, false, not, _&&_, _||_}
+use mathlib.Core.Bool.{Bool, true, false, not, _&&_}
 use mathlib.Core.Option.{Option, some, none, Option·map}
 use mathlib.Core.List.{List, [], _∷_, _++_, append-assoc}
 use native.Mathlib.Omega.{arith}
-use lib.ListN.{length, getD, drop}
+use lib.ListN.{getD, drop}
 use lib.Seq.{getD-drop, drop-drop}
 use lib.Dec.{eqb}
-use borrow.Author.Tests.{eqb-true, eqb-false, eq-eqb, ne-eqb, not-true}
-use Rattle.common.specs.Lists.{all-of, same}
+use borrow.Author.Tests.{eqb-true, eqb-false, ne-eqb}
+use Rattle.common.specs.Lists.{all-of}
 use Rattle.common.specs.Outcome.{Outcome, done, refused}
-use Rattle.common.proofs.Lists.{by-test, and-left, and-right, and-both, or-cases, true-or-false, below-or-not, same-eq}
+use Rattle.common.proofs.Lists.{by-test, and-left, and-right, and-both, below-or-not, all-of-append}
 use Rattle.figures.specs.Bytes.{bytes, after}
 use Rattle.figures.specs.Figure.{Figured, isDigit, takeFigure, decimal}
 use Rattle.figures.specs.Line.{Lines, left, _⏎_, linesOf}
-use Rattle.figures.proofs.Decimals.{noDigit, takes-decimal, decimal-taken, decimal-bytes, digit-range}
+use Rattle.figures.proofs.Decimals.{noDigit, takes-decimal, decimal-taken, decimal-bytes}
+use Rattle.figures.proofs.Digits.{digit-range}
 use Rattle.figures.proofs.Line.{oneLine, first-line, lines-first}
-use Rattle.forms.specs.Template.{Template, Item, word, figure, label, labelOf, letterOf, values, written, line}
+use Rattle.figures.proofs.Words.{after-front, after-taken}
+use Rattle.forms.specs.Template.{Template, word, figure, label, labelOf, letterOf, values, written, line}
 use Rattle.forms.specs.Due.{Taken, due}
 use Rattle.forms.specs.Forms.{
   jobForm,
@@ -40,14 +42,14 @@ use Rattle.forms.specs.Forms.{
 }
 
 -- the values fit the template: one below 100000 for each figure, one of 1 to 3 for each label, and no others
-unfoldable pub Fits : Template → List ℕ → Type 0
-Fits [] [] = Unit
-Fits [] (v ∷ vs) = ⊥
-Fits (word w ∷ t) vs = Fits t vs
-Fits (figure ∷ t) [] = ⊥
-Fits (figure ∷ t) (v ∷ vs) = (v < 100000) × Fits t vs
-Fits (label ∷ t) [] = ⊥
-Fits (label ∷ t) (v ∷ vs) = (1 ≤ v) × (v ≤ 3) × Fits t vs
+unfoldable pub FitsTemplate : Template → List ℕ → Type 0
+FitsTemplate [] [] = Unit
+FitsTemplate [] (v ∷ vs) = ⊥
+FitsTemplate (word w ∷ t) vs = FitsTemplate t vs
+FitsTemplate (figure ∷ t) [] = ⊥
+FitsTemplate (figure ∷ t) (v ∷ vs) = (v < 100000) × FitsTemplate t vs
+FitsTemplate (label ∷ t) [] = ⊥
+FitsTemplate (label ∷ t) (v ∷ vs) = (1 ≤ v) × (v ≤ 3) × FitsTemplate t vs
 
 -- whether a word is not empty and begins with no digit
 unfoldable pub parts : List ℕ → Bool
@@ -131,33 +133,6 @@ pub set-apart : (n : ℕ) → apart (setForm n) ≡ true
 unfolding setForm apart bytes oneLine all-of
 set-apart n = set-figures-apart n
 
--- a word is taken from the front of a text just where it stands there
-after-same : (a b : ℕ) (w s : List ℕ) → eqb a b ≡ true → after (a ∷ w) (b ∷ s) ≡ after w s
-unfolding after
-after-same a b w s h = rw (h, after)
-
-after-other : (a b : ℕ) (w s : List ℕ) → eqb a b ≡ false → after (a ∷ w) (b ∷ s) ≡ none
-unfolding after
-after-other a b w s h = rw (h, after)
-
-pub after-front : (w s : List ℕ) → after w (w ++ s) ≡ some s
-after-front [] s = unfold after in refl
-after-front (a ∷ w) s = after-same a a w (w ++ s) (eq-eqb a a refl) ∙ after-front w s
-
-pub after-taken : (w s r : List ℕ) → after w s ≡ some r → s ≡ w ++ r
-after-taken [] s r h = unfold after in cc
-after-taken (a ∷ w) [] r h = unfold after in absurd (let z : _≡_ {A = ℕ} 0 1 = cc in omega arith)
-after-taken (a ∷ w) (b ∷ s) r h =
-    ⊎-elim
-    (λ (e : eqb a b ≡ true).
-    let p = after-taken w s r (sym (after-same a b w s e) ∙ h) in
-    let q = eqb-true a b e in
-    cc)
-    (λ (e : eqb a b ≡ false).
-    let g = after-other a b w s e in
-    absurd (let z : _≡_ {A = ℕ} 0 1 = cc in omega arith))
-    (by-test (eqb a b))
-
 -- a label and its letter
 pub letter-label : (v : ℕ) → 1 ≤ v → v ≤ 3 → labelOf (letterOf v) ≡ v
 letter-label v low high =
@@ -199,16 +174,24 @@ label-letter b h =
     (label-cases b h)
 
 -- the step of a template at each item, and what its values say of that item
-values-word : (w : String) (t : Template) (s r : List ℕ) → after (bytes w) s ≡ some r → values (word w ∷ t) s ≡ values t r
+pub values-word : (w : String) (t : Template) (s r : List ℕ) → after (bytes w) s ≡ some r → values (word w ∷ t) s ≡ values t r
 unfolding values
 values-word w t s r h = rw (h, values)
 
-values-figure :
+pub values-figure :
     (t : Template) (s : List ℕ) (f : Figured)
     → takeFigure s ≡ some f
     → values (figure ∷ t) s ≡ Option·map (λ vs. f .figure ∷ vs) (values t (f .rest))
 unfolding values
 values-figure t s f h = rw (h, values)
+
+pub word-none : (w : String) (t : Template) (s : List ℕ) → after (bytes w) s ≡ none → values (word w ∷ t) s ≡ none
+unfolding values
+word-none w t s h = rw (h, values)
+
+pub figure-none : (t : Template) (s : List ℕ) → takeFigure s ≡ none → values (figure ∷ t) s ≡ none
+unfolding values
+figure-none t s h = rw (h, values)
 
 values-label :
     (t : Template) (b : ℕ) (s : List ℕ)
@@ -280,30 +263,30 @@ closes-written (word w ∷ t) vs h = parts-front (bytes w) (written t vs) h
 closes-written (figure ∷ t) vs h = absurd (let z : _≡_ {A = ℕ} 0 1 = cc in omega arith)
 closes-written (label ∷ t) vs h = absurd (let z : _≡_ {A = ℕ} 0 1 = cc in omega arith)
 
--- a figure or a label in front, read by a template that begins so
+-- a figure or a label in front of a line is read back
 figure-front :
-    (t u : Template) (v : ℕ) (vs : List ℕ)
+    (t : Template) (v : ℕ) (vs : List ℕ)
     → apart (figure ∷ t) ≡ true
     → v < 100000
-    → values (figure ∷ u) (decimal v ++ written t vs) ≡ Option·map (λ us. v ∷ us) (values u (written t vs))
+    → values (figure ∷ t) (decimal v ++ written t vs) ≡ Option·map (λ us. v ∷ us) (values t (written t vs))
 unfolding apart
-figure-front t u v vs a p =
-    values-figure u (decimal v ++ written t vs) (record { figure = v; rest = written t vs })
+figure-front t v vs a p =
+    values-figure t (decimal v ++ written t vs) (record { figure = v; rest = written t vs })
     (takes-decimal v (written t vs) p (closes-written t vs (and-left (closes t) (apart t) a)))
 
 label-front :
-    (t u : Template) (v : ℕ) (vs : List ℕ)
+    (t : Template) (v : ℕ) (vs : List ℕ)
     → 1 ≤ v
     → v ≤ 3
-    → values (label ∷ u) (letterOf v ∷ written t vs) ≡ Option·map (λ us. v ∷ us) (values u (written t vs))
-label-front t u v vs low high =
+    → values (label ∷ t) (letterOf v ∷ written t vs) ≡ Option·map (λ us. v ∷ us) (values t (written t vs))
+label-front t v vs low high =
     let e = letter-label v low high in
     let n : eqb (labelOf (letterOf v)) 0 ≡ false =
     ne-eqb (labelOf (letterOf v)) 0 (λ (z : labelOf (letterOf v) ≡ 0). omega arith) in
-    values-label u (letterOf v) (written t vs) n ∙ rw e
+    values-label t (letterOf v) (written t vs) n ∙ rw e
 
-pub values-written : (t : Template) (vs : List ℕ) → apart t ≡ true → Fits t vs → values t (written t vs) ≡ some vs
-unfolding Fits apart written
+pub values-written : (t : Template) (vs : List ℕ) → apart t ≡ true → FitsTemplate t vs → values t (written t vs) ≡ some vs
+unfolding FitsTemplate apart written
 values-written [] [] a f = unfold values in refl
 values-written [] (v ∷ vs) a f = absurd f
 values-written (word w ∷ t) vs a f =
@@ -311,12 +294,12 @@ values-written (word w ∷ t) vs a f =
     ∙ values-written t vs (and-right (oneLine (bytes w)) (apart t) a) f
 values-written (figure ∷ t) [] a f = absurd f
 values-written (figure ∷ t) (v ∷ vs) a f =
-    figure-front t t v vs a (f .0) ∙ rw (values-written t vs (and-right (closes t) (apart t) a) (f .1))
+    figure-front t v vs a (f .0) ∙ rw (values-written t vs (and-right (closes t) (apart t) a) (f .1))
 values-written (label ∷ t) [] a f = absurd f
-values-written (label ∷ t) (v ∷ vs) a f = label-front t t v vs (f .0) (f .1) ∙ rw (values-written t vs a (f .2))
+values-written (label ∷ t) (v ∷ vs) a f = label-front t v vs (f .0) (f .1) ∙ rw (values-written t vs a (f .2))
 
-pub written-values : (t : Template) (l vs : List ℕ) → values t l ≡ some vs → (l ≡ written t vs) × Fits t vs
-unfolding Fits written
+pub written-values : (t : Template) (l vs : List ℕ) → values t l ≡ some vs → (l ≡ written t vs) × FitsTemplate t vs
+unfolding FitsTemplate written
 written-values [] [] vs h = let e : [] ≡ vs = nothing-values vs h in rw (← e) (refl, tt)
 written-values [] (b ∷ l) vs h = unfold values in absurd (let z : _≡_ {A = ℕ} 0 1 = cc in omega arith)
 written-values (word w ∷ t) l vs h =
@@ -347,11 +330,8 @@ written-values (label ∷ t) (b ∷ l) us h =
 
 -- the line holds no line feed
 oneLine-append : (l s : List ℕ) → oneLine l ≡ true → oneLine s ≡ true → oneLine (l ++ s) ≡ true
-unfolding oneLine all-of
-oneLine-append [] s h k = k
-oneLine-append (b ∷ l) s h k =
-    and-both (not (eqb b 10)) (oneLine (l ++ s)) (and-left (not (eqb b 10)) (oneLine l) h)
-    (oneLine-append l s (and-right (not (eqb b 10)) (oneLine l) h) k)
+unfolding oneLine
+oneLine-append l s h k = all-of-append (λ b. not (eqb b 10)) l s h k
 
 digits-line : (ds : List ℕ) → all-of isDigit ds ≡ true → oneLine ds ≡ true
 unfolding oneLine all-of
@@ -372,8 +352,8 @@ letter-more : (b : ℕ) (s : List ℕ) → eqb b 10 ≡ false → oneLine s ≡ 
 unfolding oneLine all-of
 letter-more b s e h = and-both (not (eqb b 10)) (oneLine s) (rw e) h
 
-pub written-line : (t : Template) (vs : List ℕ) → apart t ≡ true → Fits t vs → oneLine (written t vs) ≡ true
-unfolding Fits apart written
+pub written-line : (t : Template) (vs : List ℕ) → apart t ≡ true → FitsTemplate t vs → oneLine (written t vs) ≡ true
+unfolding FitsTemplate apart written
 written-line [] [] a f = unfold oneLine all-of in refl
 written-line [] (v ∷ vs) a f = absurd f
 written-line (word w ∷ t) vs a f =
@@ -414,14 +394,14 @@ due-line t n (l ⏎ ls) o h =
     let d = due-from n (values t l) ls o h in
     (l, ap (λ (ms : Lines). l ⏎ ms) (d .1), d .0)
 
-pub due-fits : (t : Template) (n : ℕ) (ls : Lines) (o : Taken) → due t n ls ≡ done o → Fits t (o .vals)
+pub due-fits : (t : Template) (n : ℕ) (ls : Lines) (o : Taken) → due t n ls ≡ done o → FitsTemplate t (o .vals)
 due-fits t n ls o h = let d = due-line t n ls o h in written-values t (d .0) (o .vals) (d .2) .1
 
 -- the line due, where a text begins with it
 pub due-written :
     (t : Template) (vs : List ℕ) (n : ℕ) (s : List ℕ)
     → apart t ≡ true
-    → Fits t vs
+    → FitsTemplate t vs
     → due t n (linesOf (line t vs ++ s)) ≡ done (record { vals = vs; later = linesOf s })
 unfolding line
 due-written t vs n s a f =
@@ -434,7 +414,7 @@ due-written t vs n s a f =
 pub due-taken :
     (t : Template) (n : ℕ) (s : List ℕ) (o : Taken)
     → due t n (linesOf s) ≡ done o
-    → (rest : List ℕ) × (s ≡ line t (o .vals) ++ rest) × (o .later ≡ linesOf rest) × Fits t (o .vals)
+    → (rest : List ℕ) × (s ≡ line t (o .vals) ++ rest) × (o .later ≡ linesOf rest) × FitsTemplate t (o .vals)
 unfolding line
 due-taken t n s o h =
     let d = due-line t n (linesOf s) o h in
@@ -454,11 +434,11 @@ entries (figure ∷ t) i vs = getD vs i 0 ∷ entries t (suc i) vs
 entries (label ∷ t) i vs = getD vs i 0 ∷ entries t (suc i) vs
 
 -- the bounds of these entries
-unfoldable pub Within : Template → ℕ → List ℕ → Type 0
-Within [] i vs = Unit
-Within (word w ∷ t) i vs = Within t i vs
-Within (figure ∷ t) i vs = (getD vs i 0 < 100000) × Within t (suc i) vs
-Within (label ∷ t) i vs = (1 ≤ getD vs i 0) × (getD vs i 0 ≤ 3) × Within t (suc i) vs
+unfoldable pub ValueWithin : Template → ℕ → List ℕ → Type 0
+ValueWithin [] i vs = Unit
+ValueWithin (word w ∷ t) i vs = ValueWithin t i vs
+ValueWithin (figure ∷ t) i vs = (getD vs i 0 < 100000) × ValueWithin t (suc i) vs
+ValueWithin (label ∷ t) i vs = (1 ≤ getD vs i 0) × (getD vs i 0 ≤ 3) × ValueWithin t (suc i) vs
 
 -- the entry at place i of values that are v and others from there on, and the others
 place-first : (us vs : List ℕ) (i v : ℕ) → drop i us ≡ v ∷ vs → getD us i 0 ≡ v
@@ -472,8 +452,8 @@ place-more us vs i v e =
     ap (λ (j : ℕ). drop j us) k ∙ sym (drop-drop 1 i us) ∙ ap (drop 1) e
 
 fits-from :
-    (t : Template) (us vs : List ℕ) (i : ℕ) → drop i us ≡ vs → Fits t vs → (vs ≡ entries t i us) × Within t i us
-unfolding Fits entries Within
+    (t : Template) (us vs : List ℕ) (i : ℕ) → drop i us ≡ vs → FitsTemplate t vs → (vs ≡ entries t i us) × ValueWithin t i us
+unfolding FitsTemplate entries ValueWithin
 fits-from [] us [] i e f = (refl, tt)
 fits-from [] us (v ∷ vs) i e f = absurd f
 fits-from (word w ∷ t) us vs i e f = fits-from t us vs i e f
@@ -488,44 +468,44 @@ fits-from (label ∷ t) us (v ∷ vs) i e f =
     let k = fits-from t us vs (suc i) (place-more us vs i v e) (f .2) in
     rw p (ap (λ (r : List ℕ). v ∷ r) (k .0), (f .0, f .1, k .1))
 
-pub fits-entries : (t : Template) (vs : List ℕ) → Fits t vs → vs ≡ entries t 0 vs
+pub fits-entries : (t : Template) (vs : List ℕ) → FitsTemplate t vs → vs ≡ entries t 0 vs
 fits-entries t vs f = fits-from t vs vs 0 refl f .0
 
-pub fits-within : (t : Template) (vs : List ℕ) → Fits t vs → Within t 0 vs
+pub fits-within : (t : Template) (vs : List ℕ) → FitsTemplate t vs → ValueWithin t 0 vs
 fits-within t vs f = fits-from t vs vs 0 refl f .1
 
--- The values of each line of document 01: the values of a line that was read, and that values in bounds fit.
+-- The values of the lines that are read by a template: the values of a line that was read, and that values in bounds fit.
 
 pub job-values :
     (vs : List ℕ)
-    → Fits jobForm vs
+    → FitsTemplate jobForm vs
     → (vs ≡ getD vs 0 0 ∷ getD vs 1 0 ∷ getD vs 2 0 ∷ [])
     × (getD vs 0 0 < 100000) × (getD vs 1 0 < 100000) × (getD vs 2 0 < 100000)
-unfolding entries Within jobForm
+unfolding entries ValueWithin jobForm
 job-values vs f = let w = fits-within jobForm vs f in (fits-entries jobForm vs f, w .0, w .1 .0, w .1 .1 .0)
 
-pub job-fits : (a b c : ℕ) → a < 100000 → b < 100000 → c < 100000 → Fits jobForm (a ∷ b ∷ c ∷ [])
-unfolding Fits jobForm
+pub job-fits : (a b c : ℕ) → a < 100000 → b < 100000 → c < 100000 → FitsTemplate jobForm (a ∷ b ∷ c ∷ [])
+unfolding FitsTemplate jobForm
 job-fits a b c pa pb pc = (pa, (pb, (pc, tt)))
 
 pub one-values :
     (vs : List ℕ)
-    → Fits oneForm vs
+    → FitsTemplate oneForm vs
     → (vs ≡ getD vs 0 0 ∷ []) × (1 ≤ getD vs 0 0) × (getD vs 0 0 ≤ 3)
-unfolding entries Within oneForm
+unfolding entries ValueWithin oneForm
 one-values vs f = let w = fits-within oneForm vs f in (fits-entries oneForm vs f, w .0, w .1)
 
-pub one-fits : (a : ℕ) → 1 ≤ a → a ≤ 3 → Fits oneForm (a ∷ [])
-unfolding Fits oneForm
+pub one-fits : (a : ℕ) → 1 ≤ a → a ≤ 3 → FitsTemplate oneForm (a ∷ [])
+unfolding FitsTemplate oneForm
 one-fits a low high = (low, high, tt)
 
 pub node-values :
     (vs : List ℕ)
-    → Fits nodeForm vs
+    → FitsTemplate nodeForm vs
     → (vs ≡ getD vs 0 0 ∷ getD vs 1 0 ∷ getD vs 2 0 ∷ getD vs 3 0 ∷ getD vs 4 0 ∷ [])
     × (getD vs 0 0 < 100000) × (getD vs 1 0 < 100000) × (getD vs 2 0 < 100000) × (getD vs 3 0 < 100000)
     × (1 ≤ getD vs 4 0) × (getD vs 4 0 ≤ 3)
-unfolding entries Within nodeForm
+unfolding entries ValueWithin nodeForm
 node-values vs f =
     let w = fits-within nodeForm vs f in
     (fits-entries nodeForm vs f, w .0, w .1 .0, w .1 .1 .0, w .1 .1 .1 .0, w .1 .1 .1 .1 .0, w .1 .1 .1 .1 .1)
@@ -538,35 +518,35 @@ pub node-fits :
     → d < 100000
     → 1 ≤ e
     → e ≤ 3
-    → Fits nodeForm (a ∷ b ∷ c ∷ d ∷ e ∷ [])
-unfolding Fits nodeForm
+    → FitsTemplate nodeForm (a ∷ b ∷ c ∷ d ∷ e ∷ [])
+unfolding FitsTemplate nodeForm
 node-fits a b c d e pa pb pc pd low high = (pa, (pb, (pc, (pd, (low, high, tt)))))
 
 pub out-values :
     (vs : List ℕ)
-    → Fits outForm vs
+    → FitsTemplate outForm vs
     → (vs ≡ getD vs 0 0 ∷ getD vs 1 0 ∷ []) × (getD vs 0 0 < 100000) × (getD vs 1 0 < 100000)
-unfolding entries Within outForm
+unfolding entries ValueWithin outForm
 out-values vs f = let w = fits-within outForm vs f in (fits-entries outForm vs f, w .0, w .1 .0)
 
-pub out-fits : (a b : ℕ) → a < 100000 → b < 100000 → Fits outForm (a ∷ b ∷ [])
-unfolding Fits outForm
+pub out-fits : (a b : ℕ) → a < 100000 → b < 100000 → FitsTemplate outForm (a ∷ b ∷ [])
+unfolding FitsTemplate outForm
 out-fits a b pa pb = (pa, (pb, tt))
 
-pub end-values : (vs : List ℕ) → Fits endForm vs → vs ≡ []
+pub end-values : (vs : List ℕ) → FitsTemplate endForm vs → vs ≡ []
 unfolding entries endForm
 end-values vs f = fits-entries endForm vs f
 
-pub end-fits : Fits endForm []
-unfolding Fits endForm
+pub end-fits : FitsTemplate endForm []
+unfolding FitsTemplate endForm
 end-fits = tt
 
 pub crossbar-values :
     (vs : List ℕ)
-    → Fits crossbarForm vs
+    → FitsTemplate crossbarForm vs
     → (vs ≡ getD vs 0 0 ∷ getD vs 1 0 ∷ getD vs 2 0 ∷ getD vs 3 0 ∷ [])
     × (getD vs 0 0 < 100000) × (getD vs 1 0 < 100000) × (getD vs 2 0 < 100000) × (getD vs 3 0 < 100000)
-unfolding entries Within crossbarForm
+unfolding entries ValueWithin crossbarForm
 crossbar-values vs f =
     let w = fits-within crossbarForm vs f in
     (fits-entries crossbarForm vs f, w .0, w .1 .0, w .1 .1 .0, w .1 .1 .1 .0)
@@ -577,224 +557,41 @@ pub crossbar-fits :
     → b < 100000
     → c < 100000
     → d < 100000
-    → Fits crossbarForm (a ∷ b ∷ c ∷ d ∷ [])
-unfolding Fits crossbarForm
+    → FitsTemplate crossbarForm (a ∷ b ∷ c ∷ d ∷ [])
+unfolding FitsTemplate crossbarForm
 crossbar-fits a b c d pa pb pc pd = (pa, (pb, (pc, (pd, tt))))
 
 pub on-values :
     (vs : List ℕ)
-    → Fits onForm vs
+    → FitsTemplate onForm vs
     → (vs ≡ getD vs 0 0 ∷ getD vs 1 0 ∷ []) × (getD vs 0 0 < 100000) × (getD vs 1 0 < 100000)
-unfolding entries Within onForm
+unfolding entries ValueWithin onForm
 on-values vs f = let w = fits-within onForm vs f in (fits-entries onForm vs f, w .0, w .1 .0)
 
-pub on-fits : (a b : ℕ) → a < 100000 → b < 100000 → Fits onForm (a ∷ b ∷ [])
-unfolding Fits onForm
+pub on-fits : (a b : ℕ) → a < 100000 → b < 100000 → FitsTemplate onForm (a ∷ b ∷ [])
+unfolding FitsTemplate onForm
 on-fits a b pa pb = (pa, (pb, tt))
 
 pub yes-values :
     (vs : List ℕ)
-    → Fits yesForm vs
+    → FitsTemplate yesForm vs
     → (vs ≡ getD vs 0 0 ∷ getD vs 1 0 ∷ getD vs 2 0 ∷ [])
     × (getD vs 0 0 < 100000) × (getD vs 1 0 < 100000) × (getD vs 2 0 < 100000)
-unfolding entries Within yesForm
+unfolding entries ValueWithin yesForm
 yes-values vs f = let w = fits-within yesForm vs f in (fits-entries yesForm vs f, w .0, w .1 .0, w .1 .1 .0)
 
-pub yes-fits : (a b c : ℕ) → a < 100000 → b < 100000 → c < 100000 → Fits yesForm (a ∷ b ∷ c ∷ [])
-unfolding Fits yesForm
+pub yes-fits : (a b c : ℕ) → a < 100000 → b < 100000 → c < 100000 → FitsTemplate yesForm (a ∷ b ∷ c ∷ [])
+unfolding FitsTemplate yesForm
 yes-fits a b c pa pb pc = (pa, (pb, (pc, tt)))
 
 pub no-values :
     (vs : List ℕ)
-    → Fits noForm vs
+    → FitsTemplate noForm vs
     → (vs ≡ getD vs 0 0 ∷ getD vs 1 0 ∷ getD vs 2 0 ∷ [])
     × (getD vs 0 0 < 100000) × (getD vs 1 0 < 100000) × (getD vs 2 0 < 100000)
-unfolding entries Within noForm
+unfolding entries ValueWithin noForm
 no-values vs f = let w = fits-within noForm vs f in (fits-entries noForm vs f, w .0, w .1 .0, w .1 .1 .0)
 
-pub no-fits : (a b c : ℕ) → a < 100000 → b < 100000 → c < 100000 → Fits noForm (a ∷ b ∷ c ∷ [])
-unfolding Fits noForm
+pub no-fits : (a b c : ℕ) → a < 100000 → b < 100000 → c < 100000 → FitsTemplate noForm (a ∷ b ∷ c ∷ [])
+unfolding FitsTemplate noForm
 no-fits a b c pa pb pc = (pa, (pb, (pc, tt)))
-
-pub refused-values :
-    (vs : List ℕ)
-    → Fits refusedForm vs
-    → (vs ≡ getD vs 0 0 ∷ getD vs 1 0 ∷ []) × (getD vs 0 0 < 100000) × (getD vs 1 0 < 100000)
-unfolding entries Within refusedForm
-refused-values vs f = let w = fits-within refusedForm vs f in (fits-entries refusedForm vs f, w .0, w .1 .0)
-
-pub refused-fits : (a b : ℕ) → a < 100000 → b < 100000 → Fits refusedForm (a ∷ b ∷ [])
-unfolding Fits refusedForm
-refused-fits a b pa pb = (pa, (pb, tt))
-
-pub rounds-values :
-    (vs : List ℕ)
-    → Fits roundsForm vs
-    → (vs ≡ getD vs 0 0 ∷ []) × (getD vs 0 0 < 100000)
-unfolding entries Within roundsForm
-rounds-values vs f = let w = fits-within roundsForm vs f in (fits-entries roundsForm vs f, w .0)
-
-pub rounds-fits : (a : ℕ) → a < 100000 → Fits roundsForm (a ∷ [])
-unfolding Fits roundsForm
-rounds-fits a pa = (pa, tt)
-
-pub reads-values :
-    (vs : List ℕ)
-    → Fits readsForm vs
-    → (vs ≡ getD vs 0 0 ∷ getD vs 1 0 ∷ []) × (getD vs 0 0 < 100000) × (getD vs 1 0 < 100000)
-unfolding entries Within readsForm
-reads-values vs f = let w = fits-within readsForm vs f in (fits-entries readsForm vs f, w .0, w .1 .0)
-
-pub reads-fits : (a b : ℕ) → a < 100000 → b < 100000 → Fits readsForm (a ∷ b ∷ [])
-unfolding Fits readsForm
-reads-fits a b pa pb = (pa, (pb, tt))
-
-by-place :
-    (vs : List ℕ) (n v : ℕ)
-    → v < 100000
-    → ((i : ℕ) → i < n → getD vs i 0 < 100000)
-    → (i : ℕ)
-    → i < suc n
-    → getD (v ∷ vs) i 0 < 100000
-by-place vs n v p h zero k = p
-by-place vs n v p h (suc i) k = h i (omega arith)
-
--- a line of settings: n values below 100000
-set-figures :
-    (n : ℕ) (vs : List ℕ)
-    → Fits (setFigures n) vs
-    → (length vs ≡ n) × ((i : ℕ) → i < n → getD vs i 0 < 100000)
-unfolding Fits setFigures
-set-figures zero [] f = (refl, λ i h. absurd (omega arith))
-set-figures zero (v ∷ vs) f = absurd f
-set-figures (suc n) [] f = absurd f
-set-figures (suc n) (v ∷ vs) f =
-    let k = set-figures n vs (f .1) in
-    (ap suc (k .0), by-place vs n v (f .0) (k .1))
-
-pub set-values :
-    (n : ℕ) (vs : List ℕ) → Fits (setForm n) vs → (length vs ≡ n) × ((i : ℕ) → i < n → getD vs i 0 < 100000)
-unfolding setForm Fits
-set-values n vs f = set-figures n vs f
-
-set-figures-fits :
-    (n : ℕ) (vs : List ℕ) → length vs ≡ n → ((i : ℕ) → i < n → getD vs i 0 < 100000) → Fits (setFigures n) vs
-unfolding Fits setFigures
-set-figures-fits zero [] e h = tt
-set-figures-fits zero (v ∷ vs) e h = absurd (omega arith)
-set-figures-fits (suc n) [] e h = absurd (omega arith)
-set-figures-fits (suc n) (v ∷ vs) e h =
-    (h 0 (omega arith), set-figures-fits n vs (omega arith) (λ (i : ℕ) (k : i < n). h (suc i) (omega arith)))
-
-pub set-fits :
-    (n : ℕ) (vs : List ℕ) → length vs ≡ n → ((i : ℕ) → i < n → getD vs i 0 < 100000) → Fits (setForm n) vs
-unfolding setForm Fits
-set-fits n vs e h = set-figures-fits n vs e h
-
--- Two templates that no line has in common.
-
--- whether two words have unlike bytes at a place that both have
-unfoldable pub clash : List ℕ → List ℕ → Bool
-clash [] x = false
-clash (a ∷ w) [] = false
-clash (a ∷ w) (b ∷ x) = not (eqb a b) || clash w x
-
--- whether two templates are alike up to words that clash
-unfoldable pub unlike : Template → Template → Bool
-unlike [] u = false
-unlike (word w ∷ t) [] = false
-unlike (word w ∷ t) (word x ∷ u) = clash (bytes w) (bytes x) || (same (bytes w) (bytes x) && unlike t u)
-unlike (word w ∷ t) (figure ∷ u) = false
-unlike (word w ∷ t) (label ∷ u) = false
-unlike (figure ∷ t) [] = false
-unlike (figure ∷ t) (word x ∷ u) = false
-unlike (figure ∷ t) (figure ∷ u) = unlike t u
-unlike (figure ∷ t) (label ∷ u) = false
-unlike (label ∷ t) [] = false
-unlike (label ∷ t) (word x ∷ u) = false
-unlike (label ∷ t) (figure ∷ u) = false
-unlike (label ∷ t) (label ∷ u) = unlike t u
-
-after-either : (a b : ℕ) (w s : List ℕ) → after w s ≡ none → after (a ∷ w) (b ∷ s) ≡ none
-after-either a b w s h =
-    ⊎-elim
-    (λ (e : eqb a b ≡ true). after-same a b w s e ∙ h)
-    (λ (e : eqb a b ≡ false). after-other a b w s e)
-    (by-test (eqb a b))
-
-after-clash : (w x s : List ℕ) → clash w x ≡ true → after x (w ++ s) ≡ none
-unfolding clash
-after-clash [] x s h = absurd (true-or-false false h refl)
-after-clash (a ∷ w) [] s h = absurd (true-or-false false h refl)
-after-clash (a ∷ w) (b ∷ x) s h =
-    ⊎-elim
-    (λ (e : not (eqb a b) ≡ true).
-    let n : a ≡ b → ⊥ = eqb-false a b (not-true (eqb a b) e) in
-    after-other b a x (w ++ s) (ne-eqb b a (λ (z : b ≡ a). n (sym z))))
-    (λ (e : clash w x ≡ true). after-either b a x (w ++ s) (after-clash w x s e))
-    (or-cases (not (eqb a b)) (clash w x) h)
-
-word-none : (w : String) (t : Template) (s : List ℕ) → after (bytes w) s ≡ none → values (word w ∷ t) s ≡ none
-unfolding values
-word-none w t s h = rw (h, values)
-
-pub values-unlike :
-    (t u : Template) (vs : List ℕ)
-    → apart t ≡ true
-    → unlike t u ≡ true
-    → Fits t vs
-    → values u (written t vs) ≡ none
-unfolding Fits apart written unlike
-values-unlike [] u vs a h f = absurd (true-or-false false h refl)
-values-unlike (word w ∷ t) [] vs a h f = absurd (true-or-false false h refl)
-values-unlike (word w ∷ t) (word x ∷ u) vs a h f =
-    ⊎-elim
-    (λ (e : clash (bytes w) (bytes x) ≡ true).
-    word-none x u (bytes w ++ written t vs) (after-clash (bytes w) (bytes x) (written t vs) e))
-    (λ (e : same (bytes w) (bytes x) && unlike t u ≡ true).
-    let q : bytes w ≡ bytes x = same-eq (bytes w) (bytes x) (and-left (same (bytes w) (bytes x)) (unlike t u) e) in
-    let p : after (bytes x) (bytes w ++ written t vs) ≡ some (written t vs) =
-    ap (λ (r : List ℕ). after r (bytes w ++ written t vs)) (sym q) ∙ after-front (bytes w) (written t vs) in
-    values-word x u (bytes w ++ written t vs) (written t vs) p
-    ∙ values-unlike t u vs (and-right (oneLine (bytes w)) (apart t) a)
-    (and-right (same (bytes w) (bytes x)) (unlike t u) e) f)
-    (or-cases (clash (bytes w) (bytes x)) (same (bytes w) (bytes x) && unlike t u) h)
-values-unlike (word w ∷ t) (figure ∷ u) vs a h f = absurd (true-or-false false h refl)
-values-unlike (word w ∷ t) (label ∷ u) vs a h f = absurd (true-or-false false h refl)
-values-unlike (figure ∷ t) [] vs a h f = absurd (true-or-false false h refl)
-values-unlike (figure ∷ t) (word x ∷ u) vs a h f = absurd (true-or-false false h refl)
-values-unlike (figure ∷ t) (figure ∷ u) [] a h f = absurd f
-values-unlike (figure ∷ t) (figure ∷ u) (v ∷ vs) a h f =
-    figure-front t u v vs a (f .0) ∙ rw (values-unlike t u vs (and-right (closes t) (apart t) a) h (f .1))
-values-unlike (figure ∷ t) (label ∷ u) vs a h f = absurd (true-or-false false h refl)
-values-unlike (label ∷ t) [] vs a h f = absurd (true-or-false false h refl)
-values-unlike (label ∷ t) (word x ∷ u) vs a h f = absurd (true-or-false false h refl)
-values-unlike (label ∷ t) (figure ∷ u) vs a h f = absurd (true-or-false false h refl)
-values-unlike (label ∷ t) (label ∷ u) [] a h f = absurd f
-values-unlike (label ∷ t) (label ∷ u) (v ∷ vs) a h f =
-    label-front t u v vs (f .0) (f .1) ∙ rw (values-unlike t u vs a h (f .2))
-
--- what tells the lines of a listing apart: a cell line from those of the other cells, and an output's line from a cell line
-pub yes-not-on : (vs : List ℕ) → Fits yesForm vs → values onForm (written yesForm vs) ≡ none
-yes-not-on vs f =
-    values-unlike yesForm onForm vs yes-apart (unfold yesForm onForm unlike clash same bytes in refl) f
-
-pub no-not-on : (vs : List ℕ) → Fits noForm vs → values onForm (written noForm vs) ≡ none
-no-not-on vs f =
-    values-unlike noForm onForm vs no-apart (unfold noForm onForm unlike clash same bytes in refl) f
-
-pub no-not-yes : (vs : List ℕ) → Fits noForm vs → values yesForm (written noForm vs) ≡ none
-no-not-yes vs f =
-    values-unlike noForm yesForm vs no-apart (unfold noForm yesForm unlike clash same bytes in refl) f
-
-pub out-not-on : (vs : List ℕ) → Fits outForm vs → values onForm (written outForm vs) ≡ none
-out-not-on vs f =
-    values-unlike outForm onForm vs out-apart (unfold outForm onForm unlike clash same bytes in refl) f
-
-pub out-not-yes : (vs : List ℕ) → Fits outForm vs → values yesForm (written outForm vs) ≡ none
-out-not-yes vs f =
-    values-unlike outForm yesForm vs out-apart (unfold outForm yesForm unlike clash same bytes in refl) f
-
-pub out-not-no : (vs : List ℕ) → Fits outForm vs → values noForm (written outForm vs) ≡ none
-out-not-no vs f =
-    values-unlike outForm noForm vs out-apart (unfold outForm noForm unlike clash same bytes in refl) f

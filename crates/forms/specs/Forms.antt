@@ -1,7 +1,7 @@
--- The lines of document 01, one template each: "One blank stands between items, none elsewhere."
+-- The lines of document 01, one template each: "One blank stands between items, none elsewhere."; and the lines of all outputs in turn.
 use Prim.Native.Nat.{ℕ, zero, suc}
-use mathlib.Core.List.{[], _∷_}
-use Rattle.forms.specs.Template.{Template, word, figure, label}
+use mathlib.Core.List.{List, [], _∷_, _++_}
+use Rattle.forms.specs.Template.{Template, word, figure, label, line}
 
 -- "Job text", 1: `(job V N K)`
 unfoldable pub jobForm : Template
@@ -30,6 +30,11 @@ nodeForm =
 -- 4: `(out J I)`, and in a listing `(out J r)`
 unfoldable pub outForm : Template
 outForm = word "(out " ∷ figure ∷ word " " ∷ figure ∷ word ")" ∷ []
+
+-- the line of each output, from output j on: "then `(out J r)` for each output", and so in a job's text
+unfoldable pub outLines : ℕ → List ℕ → List ℕ
+outLines j [] = []
+outLines j (i ∷ is) = line outForm (j ∷ i ∷ []) ++ outLines (suc j) is
 
 -- 5: `(end)`
 unfoldable pub endForm : Template

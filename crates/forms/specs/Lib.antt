@@ -1,5 +1,6 @@
--- The law: Template says how a line is read and written, Forms which lines there are, Due which line is due, and Form which cell a cell
--- line names (`placed`). The rest of Form, Read and Written are working definitions; only inner contracts cite them.
+-- The law: Template says how a line is read and written, Forms which lines there are and the lines of the outputs (`outLines`), Due which
+-- line is due, and Form which cell a cell line names (`placed`). The rest of Form, Read and Written are working definitions; only inner
+-- contracts cite them.
 pub mod Template
 pub mod Due
 pub mod Form

@@ -8,6 +8,7 @@ use common::LABEL_V;
 use common::Refusal;
 use figures::NOWHERE;
 use figures::Past;
+use figures::any_figure_past;
 use figures::figure_past;
 use figures::word_past;
 ghost use mathlib.Core.Path.{_≡_};
@@ -136,11 +137,11 @@ pub fn job_line(text: &[u8], at: usize, number: u32) -> LineRead
     ensures { λ r. ⌜ r ≡ lineRead jobForm jobFrom (now (text .entry)) at number ⌝ }
 {
     let head = word_past(text, at, b"(job ");
-    let v = figure_past(text, head);
+    let v = any_figure_past(text, head);
     let mid = word_past(text, v.next, b" ");
-    let n = figure_past(text, mid);
+    let n = any_figure_past(text, mid);
     let last = word_past(text, n.next, b" ");
-    let k = figure_past(text, last);
+    let k = any_figure_past(text, last);
     let next = word_past(text, k.next, b")\n");
     form_or_refusal(
         Form::Job(JobForm {
@@ -223,13 +224,13 @@ pub fn size_line(text: &[u8], at: usize, number: u32) -> LineRead
     ensures { λ r. ⌜ r ≡ lineRead crossbarForm sizeFrom (now (text .entry)) at number ⌝ }
 {
     let head = word_past(text, at, b"(crossbar ");
-    let r = figure_past(text, head);
+    let r = any_figure_past(text, head);
     let to_c = word_past(text, r.next, b" ");
-    let c = figure_past(text, to_c);
+    let c = any_figure_past(text, to_c);
     let to_v = word_past(text, c.next, b" ");
-    let v = figure_past(text, to_v);
+    let v = any_figure_past(text, to_v);
     let to_k = word_past(text, v.next, b" ");
-    let k = figure_past(text, to_k);
+    let k = any_figure_past(text, to_k);
     let next = word_past(text, k.next, b")\n");
     form_or_refusal(
         Form::Size(SizeForm {

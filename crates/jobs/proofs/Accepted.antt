@@ -1,26 +1,23 @@
 -- What the reader accepts: a diagram that is valid line by line, so the facts of its nodes and outputs, and its sizes.
-use Prim.Native.Nat.{ℕ, zero, suc, _+_, _≤_, _<_}
+use Prim.Native.Nat.{ℕ, zero, suc, _+_, _≤_}
 use mathlib.Core.Path.{_≡_, refl, sym, ap, _∙_}
-use mathlib.Core.Bool.{Bool, true, false, not, _&&_, _||_}
-use mathlib.Core.Option.{Option, some, none}
-use mathlib.Core.List.{List, [], _∷_, _++_}
+use mathlib.Core.Bool.{not, _&&_}
+use mathlib.Core.List.{List, []}
 use native.Mathlib.Omega.{arith}
 use lib.ListN.{length, getD, length-append}
 use lib.Dec.{leb, ltb}
 use borrow.Author.Tests.{leb-true, ltb-false, not-false}
 use Rattle.common.specs.Limits.{maxRows, maxColumns, maxSwitches, maxNodes, maxOutputs}
-use Rattle.common.specs.Outcome.{Outcome, done, refused, _then_, _when_, lowest, unless}
+use Rattle.common.specs.Outcome.{Outcome, done, refused}
 use Rattle.common.proofs.Lists.{and-left, and-right, or-none}
-use Rattle.common.proofs.Outcome.{then-done, unless-done, not-met, others}
-use Rattle.figures.specs.Line.{Lines, left, _⏎_, linesOf, follows}
-use Rattle.forms.specs.Template.{Template, values}
+use Rattle.common.proofs.Outcome.{then-done, unless-done, not-met}
+use Rattle.figures.specs.Line.{Lines, linesOf}
 use Rattle.forms.specs.Due.{Taken, due}
 use Rattle.forms.specs.Forms.{jobForm, oneForm, nodeForm, outForm, endForm}
 use Rattle.forms.proofs.Template.{due-fits, node-values, one-values}
 use Rattle.diagram.proofs.Valid.{Valid, valid-bare, valid-node, valid-out, valid-facts}
-use Rattle.diagram.specs.declared.Node.{Node}
 use Rattle.diagram.specs.Diagram.{Diagram, bare, withNode, withOut}
-use Rattle.diagram.specs.Faults.{headFault, oneFault, nodeFault, outFault}
+use Rattle.diagram.specs.Faults.{headFault}
 use Rattle.diagram.specs.Wires.{rowCount, columnCount, tooLarge}
 use Rattle.diagram.specs.Facts.{Facts, Sizes}
 use Rattle.jobs.specs.Reading.{ReadText, nodeOf, readEnd, readOuts, readNodes, readOne, readHead, readText}
@@ -124,6 +121,12 @@ pub record Read (d : Diagram) : Type 0 where
   pub nodes-most : length (d .nodes) ≤ maxNodes
   pub outs-least : 1 ≤ length (d .outs)
   pub outs-most : length (d .outs) ≤ maxOutputs
+
+-- the ranges of the first line's figures
+pub record HeadRanges (v n k : ℕ) : Type 0 where
+  pub switches-most : v ≤ maxSwitches
+  pub nodes-most : n ≤ maxNodes
+  pub outputs-most : k ≤ maxOutputs
 
 -- ground 2 taken apart
 pub head-ranges :

@@ -1,20 +1,19 @@
 -- The answers of the functions of `lines.rt`, one for each kind of line, by the form that the line yields: a line that is not the form
 -- due is refused, and one that is gives its values unless it meets a ground.
-use Prim.Native.Nat.{ℕ, suc, _+_, _≤_, _<_}
-use mathlib.Core.Path.{_≡_, refl, sym, ap, _∙_}
-use mathlib.Core.Logic.{⊎-elim}
-use mathlib.Core.Bool.{true, false, _&&_}
+use Prim.Native.Nat.{ℕ, _+_, _≤_, _<_}
+use mathlib.Core.Path.{_≡_, sym, ap, _∙_}
+use mathlib.Core.Bool.{_&&_}
 use mathlib.Core.Option.{some, none}
 use mathlib.Core.List.{List, [], _∷_}
-use lib.ListN.{length, getD, drop, drop-of-length-le}
-use lib.Seq.{drop-cons}
+use lib.ListN.{length, drop}
 use lib.Dec.{eqb, ltb}
 use borrow.Author.Tests.{ltb-true, eqb-true, not-false}
 use Rattle.common.specs.declared.Refusal.{Refusal}
-use Rattle.common.specs.Outcome.{done, refused, _then_, _when_, lowest, unless, numberOf, lineOf, refusalOf, valueOf}
-use Rattle.common.proofs.Lists.{and-left, and-right, by-test}
+use Rattle.common.specs.Outcome.{done, _then_, _when_, lowest, unless, numberOf, lineOf, refusalOf, valueOf}
+use Rattle.common.proofs.Lists.{and-left, and-right}
 use Rattle.common.proofs.Outcome.{not-met, others}
-use Rattle.figures.specs.Line.{Lines, left, _⏎_, linesOf, follows, lineEnd, onto}
+use Rattle.figures.specs.Line.{linesOf, follows, lineEnd}
+use Rattle.figures.proofs.Ends.{follows-yes, follows-no}
 use Rattle.forms.specs.declared.Form.{Form}
 use Rattle.forms.specs.declared.Form.the-variants as form
 use Rattle.forms.specs.declared.JobForm.{JobForm}
@@ -33,29 +32,8 @@ use Rattle.diagram.specs.Diagram.{Diagram, idCount}
 use Rattle.diagram.specs.Faults.{headFault, oneFault, nodeFault, outFault}
 use Rattle.jobs.specs.Reading.{nodeOf}
 use Rattle.jobs.specs.LineSteps.{headFaultOf, headAnswer, headLine, oneFaultOf, oneAnswer, oneLine, nodeFaultOf, nodeAnswer, nodeLine, outFaultOf, outAnswer, outLine, endDue, lastLine}
-use Rattle.jobs.specs.LineSteps.{HeadRanges}
-use Rattle.jobs.proofs.Accepted.{node-label, one-label, head-ranges}
+use Rattle.jobs.proofs.Accepted.{node-label, one-label, head-ranges, HeadRanges}
 use Rattle.jobs.proofs.LineLaws.{line-missing, line-stops, line-goes}
-
--- a byte follows just where the position is before the last byte's end
-onto-follows : (b : ℕ) (ls : Lines) → follows (onto b ls) ≡ true
-unfolding onto follows
-onto-follows b (left t) = refl
-onto-follows b (l ⏎ ls) = refl
-
-follows-more : (b : ℕ) (s : List ℕ) → follows (linesOf (b ∷ s)) ≡ true
-unfolding linesOf follows
-follows-more b s =
-    ⊎-elim (λ (e : eqb b 10 ≡ true). rw (e, linesOf))
-    (λ (e : eqb b 10 ≡ false). rw (e, linesOf) (onto-follows b (linesOf s)))
-    (by-test (eqb b 10))
-
-pub follows-yes : (s : List ℕ) (at : ℕ) → at < length s → follows (linesOf (drop at s)) ≡ true
-follows-yes s at h = rw (drop-cons s at 0 h) (follows-more (getD s at 0) (drop (suc at) s))
-
-pub follows-no : (s : List ℕ) (at : ℕ) → length s ≤ at → follows (linesOf (drop at s)) ≡ false
-unfolding linesOf follows
-follows-no s at h = rw (drop-of-length-le s h)
 
 -- the values of a form that is the one due
 pub job-form : (g : Form) (f : JobForm) → g ≡ form.Job f → asJob g ≡ some (f .switches ∷ f .nodes ∷ f .outputs ∷ [])
@@ -97,10 +75,6 @@ node-below d i n h =
       low = ltb-true (n .l) i (and-left (ltb (n .l) i) (ltb (n .h) i) below);
       high = ltb-true (n .h) i (and-right (ltb (n .l) i) (ltb (n .h) i) below);
     }
-
-pub out-below : (d : Diagram) (j i : ℕ) → outFault d j i ≡ 0 → i < idCount d
-unfolding outFault
-out-below d j i h = ltb-true i (idCount d) (not-false (ltb i (idCount d)) (not-met 4 _ _ (others 2 _ _ h)))
 
 -- the position past a line that is the form due
 next-is :

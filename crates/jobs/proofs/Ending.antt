@@ -1,23 +1,23 @@
 -- The outputs in turn, the line `(end)`, ground 11, and the reader's answer.
-use Prim.Native.Nat.{ℕ, zero, suc, _+_, _-_, _≤_, _<_}
-use mathlib.Core.Path.{_≡_, refl, sym, ap, _∙_}
-use mathlib.Core.Bool.{Bool, true, false}
+use Prim.Native.Nat.{ℕ, suc, _+_, _-_, _≤_, _<_}
+use mathlib.Core.Path.{_≡_, sym, ap, _∙_}
+use mathlib.Core.Bool.{true, false}
 use mathlib.Core.List.{List, []}
 use native.Mathlib.Omega.{arith}
-use lib.ListN.{length, getD, take, drop, set, length-set, length-replicate}
+use lib.ListN.{length, take, drop, set, length-set, length-replicate}
 use lib.Seq.{getD-set-other, length-take-le}
-use Rattle.common.specs.Limits.{maxNodes, maxOutputs}
+use Rattle.common.specs.Limits.{maxOutputs}
 use Rattle.common.specs.Lists.{zeros, padded, tab}
 use Rattle.common.specs.Outcome.{Outcome, done, refused, _then_, lowest, unless, numberOf, lineOf, refusalOf, valueOf}
 use Rattle.common.specs.declared.Refusal.{Refusal}
-use Rattle.common.proofs.Lists.{length-tab}
+use Rattle.common.proofs.Lists.{length-tab, getD-zeros-at}
 use Rattle.common.proofs.Outcome.{unless-none, unless-some}
 use Rattle.figures.specs.Line.{linesOf, lineEnd}
 use Rattle.forms.specs.Forms.{outForm}
 use Rattle.diagram.specs.Diagram.{Diagram, idCount, withOut, entries, entry}
 use Rattle.diagram.specs.Faults.{outFault}
 use Rattle.diagram.specs.Wires.{tooLarge}
-use Rattle.diagram.specs.Table.{entryIn, tabled, Terminals}
+use Rattle.diagram.specs.Table.{entryIn, tabled}
 use Rattle.diagram.proofs.TableLaws.{tabled-out}
 use Rattle.jobs.specs.declared.OutLine.{OutLine}
 use Rattle.jobs.specs.declared.OutsRead.{OutsRead}
@@ -29,7 +29,7 @@ use Rattle.jobs.specs.LineSteps.{lineDue, outFaultOf, outAnswer, outLine
 use Rattle.jobs.specs.Reading.{ReadText, readEnd, readOuts}
 use Rattle.jobs.specs.LineSteps.{unlessRefused}
 use Rattle.jobs.specs.Progress.{Padded, OutsOf}
-use Rattle.jobs.proofs.LineLaws.{OutStep, out-step, EndStep}
+use Rattle.jobs.proofs.LineLaws.{out-step, EndStep}
 use Rattle.jobs.proofs.Entries.{padded-take}
 
 -- ---- the outputs in turn
@@ -44,13 +44,8 @@ out-line-as s at line t n a b e =
     ap (λ (f : List ℕ → ℕ). outAnswer (lineEnd s at + 1) (lineDue outForm f line (linesOf (drop at s)))) (λ i vs. same-fault t n a b e vs i)
 
 -- zeros past an entry, and past one more
-getD-zeros : (m i : ℕ) → getD (zeros m) i 0 ≡ 0
-getD-zeros zero i = refl
-getD-zeros (suc m) zero = refl
-getD-zeros (suc m) (suc i) = getD-zeros m i
-
 pub padded-none : Padded 0 (zeros maxOutputs)
-padded-none = record { entries = length-replicate {A = ℕ} maxOutputs 0; past = λ i h. getD-zeros maxOutputs i }
+padded-none = record { entries = length-replicate {A = ℕ} maxOutputs 0; past = λ i h. getD-zeros-at maxOutputs i }
 
 padded-set : (k : ℕ) (outs : List ℕ) (x : ℕ) → Padded k outs → Padded (k + 1) (set outs k x)
 padded-set k outs x h =

@@ -2,16 +2,16 @@
 use Prim.Native.Nat.{ℕ, zero, suc, _+_, _-_, _*_, _≤_, _<_}
 use mathlib.Core.Path.{_≡_, refl, sym, ap, _∙_}
 use mathlib.Core.Logic.{⊎-elim}
-use mathlib.Core.Bool.{Bool, true, false}
-use mathlib.Core.List.{List, [], _∷_, _++_}
+use mathlib.Core.Bool.{true, false}
+use mathlib.Core.List.{List, [], _++_}
 use native.Mathlib.Omega.{arith}
-use lib.ListN.{length, getD, set, take, drop, replicate, length-set, length-append, length-replicate}
+use lib.ListN.{length, getD, set, take, drop, replicate, length-replicate}
 use lib.Seq.{ext-getD, getD-set-same, getD-set-other, getD-take, length-take-le}
 use lib.Dec.{leb}
 use borrow.Author.Tests.{leb-true, leb-false}
-use Rattle.common.specs.Limits.{maxIds, maxNodes, maxOutputs}
+use Rattle.common.specs.Limits.{maxIds, maxNodes}
 use Rattle.common.specs.Lists.{zeros, tab}
-use Rattle.common.specs.Outcome.{Outcome, done, refused, _then_, unless, numberOf, lineOf, refusalOf, valueOf}
+use Rattle.common.specs.Outcome.{Outcome, done, refused, valueOf}
 use Rattle.common.specs.declared.Refusal.{Refusal}
 use Rattle.common.proofs.Lists.{below-or-not, equal-or-not, by-test, length-tab, getD-tab, true-or-false}
 use Rattle.common.proofs.Outcome.{then-done, unless-done, unless-none, unless-some}
@@ -20,8 +20,7 @@ use Rattle.forms.specs.Due.{due}
 use Rattle.forms.specs.Forms.{outForm}
 use Rattle.diagram.specs.declared.Node.{Node}
 use Rattle.diagram.specs.Diagram.{Diagram, bare, withNode, withOut, no-node}
-use Rattle.diagram.specs.Table.{entryIn, withEntry, opened, tabled, Terminals}
-use Rattle.diagram.specs.Seen.{maxSeen, Marked}
+use Rattle.diagram.specs.Table.{entryIn, withEntry, opened, tabled}
 use Rattle.diagram.proofs.TableLaws.{entry-same, entry-other, tabled-opened, tabled-node}
 use Rattle.jobs.specs.declared.HeadLine.{HeadLine}
 use Rattle.jobs.specs.declared.OneLine.{OneLine}
@@ -31,8 +30,8 @@ use Rattle.jobs.specs.declared.Progress.{Progress}
 use Rattle.jobs.specs.Answer.{noJob, jobOf, jobRead}
 use Rattle.jobs.specs.Job.{sizeTested, accepted, table}
 use Rattle.jobs.specs.LineSteps.{headLine, oneLine, nodeLine}
-use Rattle.jobs.specs.Reading.{ReadText, readEnd, readOuts, readNodes, readText}
-use Rattle.jobs.specs.LineSteps.{unlessRefused, HeadRanges}
+use Rattle.jobs.specs.Reading.{ReadText, readOuts, readNodes, readText}
+use Rattle.jobs.specs.LineSteps.{unlessRefused}
 use Rattle.jobs.specs.Progress.{
   stoppedAt,
   opening,
@@ -50,7 +49,7 @@ use Rattle.jobs.specs.Progress.{
   NodeTaken,
   Started,
 }
-use Rattle.jobs.proofs.Accepted.{read-end, accepted-job}
+use Rattle.jobs.proofs.Accepted.{read-end, accepted-job, HeadRanges}
 use Rattle.jobs.proofs.LineLaws.{head-step, one-step, node-step, no-sizes}
 use Rattle.jobs.proofs.Spread.{read-few}
 
@@ -62,8 +61,8 @@ Goes s p t =
     (readNodes (p .nodes - p .count) (p .outputs) (tabled t (p .count) []) (p .line) (linesOf (drop (p .next) s)))
 
 -- the reader's answer, from where it stands after the nodes
-abbrev pub Answer : List ℕ → Progress → List ℕ → JobRead → Type 0
-Answer s p t r =
+abbrev pub ReaderAnswer : List ℕ → Progress → List ℕ → JobRead → Type 0
+ReaderAnswer s p t r =
     r
     ≡ jobRead
     (sizeTested (unlessRefused (p .refusal) (readOuts (p .outputs) (tabled t (p .count) []) (p .line) (linesOf (drop (p .next) s)))))
@@ -351,11 +350,11 @@ module _ (s : List ℕ) (k : ℕ) (zs : List Node) (p : Progress) (t seen : List
       h .goes ∙ unless-some (p .refusal .number) (p .refusal .line) _ e ∙ sym (unless-some (p .refusal .number) (p .refusal .line) rest e))
       (equal-or-not (p .refusal .number) 0)
 
-  answer-is : (r : JobRead) → Answer s p t r → r ≡ jobRead (accepted s)
+  answer-is : (r : JobRead) → ReaderAnswer s p t r → r ≡ jobRead (accepted s)
   unfolding accepted
   answer-is r a = a ∙ ap (λ (o : Outcome ReadText). jobRead (sizeTested o)) (sym after-nodes)
 
-  pub answered-few : (r : JobRead) → Answer s p t r → (n : ℕ) → n ≡ r .job .nodes → n ≤ maxNodes
+  pub answered-few : (r : JobRead) → ReaderAnswer s p t r → (n : ℕ) → n ≡ r .job .nodes → n ≤ maxNodes
   answered-few r a n e = rw e (read-few s r (answer-is r a))
 
   -- the diagram's nodes are those that were put
@@ -386,7 +385,7 @@ module _ (s : List ℕ) (k : ℕ) (zs : List Node) (p : Progress) (t seen : List
 
   pub answered :
       length zs ≡ maxNodes
-      → (r : JobRead) → Answer s p t r
+      → (r : JobRead) → ReaderAnswer s p t r
       → (n : ℕ) → n ≡ r .job .nodes
       → (zs′ : List Node) → zs′ ≡ take n zs ++ replicate (maxNodes - n) no-node
       → (r ≡ jobRead (accepted s)) × (zs′ ≡ table (accepted s))

@@ -22,7 +22,7 @@ use denote.Memory.{lone, mem, partAt, shares}
 use denote.Array.{Array, each, arrayVal, array-makes}
 use denote.ArrayMemory.{Single, array-apart, array-whole}
 use denote.Index.{row, whole-out, whole-in}
-use denote.Ref.{RefT, MutRef, ShrRef}
+use denote.Ref.{MutRef, ShrRef}
 use denote.Slice.{sliceVal, MutSlice, ShrSlice, Room, finally}
 use denote.Lend.{Held, lends-slice, slice-back, lends-shr-slice, lends-ref, ref-back, lends-shr}
 use denote.Steps.{owned, peeks}

@@ -12,7 +12,7 @@ use Rattle.common.specs.Outcome.{Outcome, done, refused, _then_, _when_, lowest
 use Rattle.common.specs.declared.Refusal.{Refusal}
 use Rattle.common.proofs.Lists.{below-or-not}
 use Rattle.common.proofs.Outcome.{then-done, unless-done, then-is, unless-none}
-use Rattle.figures.specs.Line.{Lines, left, _⏎_, linesOf, afterFirst, follows, lineEnd}
+use Rattle.figures.specs.Line.{Lines, left, _⏎_, linesOf, follows, lineEnd}
 use Rattle.figures.proofs.Ends.{line-left}
 use Rattle.forms.specs.Template.{Template, values}
 use Rattle.forms.specs.Forms.{jobForm, oneForm, nodeForm, outForm, endForm}
@@ -41,8 +41,9 @@ use Rattle.jobs.specs.LineSteps.{
   endDue,
   lastLine,
 }
-use Rattle.jobs.specs.LineSteps.{unlessRefused, HeadRanges}
-use Rattle.jobs.proofs.Accepted.{head-ranges}
+use Rattle.jobs.specs.LineSteps.{unlessRefused}
+use Rattle.jobs.proofs.Accepted.{head-ranges, HeadRanges}
+use Rattle.figures.proofs.Line.{afterFirst}
 
 -- a line with a number goes no further, and one without goes on with its values
 fault-goes :

@@ -68,7 +68,7 @@ unfolding readHead
 named-head n ls =
     named-then (due jobForm n ls) _ (named-due jobForm n ls) (λ o. named-unless _ _ _ (named-one _ _ _ (n + 1) (o .later)))
 
-named-accepted : (s : List ℕ) → Named (accepted s)
+pub named-accepted : (s : List ℕ) → Named (accepted s)
 unfolding accepted sizeTested readText
 named-accepted s = named-then (readHead 1 (linesOf s)) _ (named-head 1 (linesOf s)) (λ t. named-unless _ _ _ (named-done _))
 

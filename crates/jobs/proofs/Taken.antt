@@ -1,16 +1,15 @@
 -- The answers of the reader's steps: the first two lines, and one node's line more.
-use Prim.Native.Nat.{ℕ, zero, suc, _+_, _*_, _≤_, _<_}
+use Prim.Native.Nat.{ℕ, _+_, _*_, _≤_, _<_}
 use mathlib.Core.Path.{_≡_, refl, sym, ap, _∙_}
-use mathlib.Core.Bool.{true, false}
-use mathlib.Core.List.{List, [], _∷_, _++_}
+use mathlib.Core.List.{List, []}
 use native.Mathlib.Omega.{arith}
 use lib.ListN.{length, set, length-replicate}
 use borrow.Author.Tests.{le-leb, lt-leb}
-use Rattle.common.specs.Limits.{maxIds, maxSwitches, maxNodes, maxOutputs}
+use Rattle.common.specs.Limits.{maxIds, maxNodes, maxOutputs}
 use Rattle.common.specs.Lists.{zeros, tab}
 use Rattle.diagram.specs.declared.Node.{Node}
-use Rattle.diagram.specs.Diagram.{Diagram, bare, withNode, terminal}
-use Rattle.diagram.specs.Table.{entryIn, withEntry, opened, tabled, Terminals}
+use Rattle.diagram.specs.Diagram.{Diagram, bare, withNode}
+use Rattle.diagram.specs.Table.{entryIn, withEntry, opened, tabled}
 use Rattle.diagram.specs.Seen.{maxSeen, seenPlace, Marked}
 use Rattle.diagram.proofs.TableLaws.{entry-other, tabled-node, terminals-kept, terminals-opened, tabled-opened}
 use Rattle.diagram.proofs.SeenLaws.{marked-none, marked-more}
@@ -19,23 +18,7 @@ use Rattle.jobs.specs.declared.OneLine.{OneLine}
 use Rattle.jobs.specs.declared.NodeLine.{NodeLine}
 use Rattle.jobs.specs.declared.Progress.{Progress}
 use Rattle.jobs.specs.LineSteps.{headLine, oneLine, nodeLine}
-use Rattle.jobs.specs.Progress.{
-  stoppedAt,
-  opening,
-  afterOne,
-  afterHead,
-  openingRead,
-  firstTable,
-  foundAt,
-  afterNode,
-  noneFound,
-  nodeStep,
-  tableAfter,
-  Bounded,
-  Ready,
-  NodeTaken,
-  Started,
-}
+use Rattle.jobs.specs.Progress.{stoppedAt, opening, afterOne, afterHead, openingRead, firstTable, foundAt, afterNode, noneFound, nodeStep, Ready, NodeTaken, Started}
 use Rattle.jobs.proofs.Going.{
   head-stopped,
   head-opened,

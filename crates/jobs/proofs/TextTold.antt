@@ -12,14 +12,15 @@ use Rattle.figures.specs.Line.{linesOf, follows}
 use Rattle.figures.proofs.Line.{follows-none, textOf, text-lines}
 use Rattle.forms.specs.Template.{line}
 use Rattle.forms.specs.Due.{due}
-use Rattle.forms.specs.Forms.{jobForm, oneForm, nodeForm, outForm, endForm}
+use Rattle.forms.specs.Forms.{jobForm, oneForm, nodeForm, outForm, endForm, outLines}
 use Rattle.forms.proofs.Template.{due-taken, job-values, one-values, node-values, out-values, end-values}
 use Rattle.diagram.specs.declared.Node.{Node}
 use Rattle.diagram.specs.Diagram.{Diagram, idCount, bare, withNode, withOut}
-use Rattle.diagram.specs.Faults.{nodeFault, outFault}
+use Rattle.diagram.specs.Faults.{outFault}
 use Rattle.jobs.specs.Reading.{ReadText, nodeOf, readEnd, readOuts, readNodes, readOne, readHead, readText}
-use Rattle.jobs.specs.Text.{nodeLines, outputLines, jobText}
+use Rattle.jobs.specs.Text.{nodeLines, jobText}
 use Rattle.jobs.proofs.TextWritten.{made, text-front}
+use Rattle.diagram.proofs.Valid.{node-id}
 
 -- the last line
 end-told :
@@ -40,7 +41,7 @@ end-told d n s t h =
 record OutsTold (k : ℕ) (d : Diagram) (n : ℕ) (s : List ℕ) (t : ReadText) : Type 0 where
   named : List ℕ
   count : length named ≡ k
-  text : s ≡ outputLines (length (d .outs)) named ++ line endForm []
+  text : s ≡ outLines (length (d .outs)) named ++ line endForm []
   result : t ≡ record { diagram = made (d .switches) (d .one) (d .nodes) (d .outs ++ named); last = n + k }
 
 out-turn : (d : Diagram) (j i : ℕ) → outFault d j i ≡ 0 → j ≡ length (d .outs)
@@ -48,7 +49,7 @@ unfolding outFault
 out-turn d j i h = eqb-true j (length (d .outs)) (not-false (eqb j (length (d .outs))) (not-met 2 _ _ h))
 
 outs-told : (k : ℕ) (d : Diagram) (n : ℕ) (s : List ℕ) (t : ReadText) → readOuts k d n (linesOf s) ≡ done t → OutsTold k d n s t
-unfolding readOuts outputLines withOut
+unfolding readOuts outLines withOut
 outs-told zero d n s t h =
     let e = end-told d n s t h in
     let line-is : n + 0 ≡ n = omega arith in
@@ -71,7 +72,7 @@ outs-told (suc k) d n s t h =
           told .1
           ∙ ap (λ (us : List ℕ). line outForm us ++ rest) shape
           ∙ ap (λ (r : List ℕ). line outForm (length (d .outs) ∷ i ∷ []) ++ r) (rw next at (more .text))
-          ∙ sym (append-assoc (line outForm (length (d .outs) ∷ i ∷ [])) (outputLines (suc (length (d .outs))) (more .named)) (line endForm []));
+          ∙ sym (append-assoc (line outForm (length (d .outs) ∷ i ∷ [])) (outLines (suc (length (d .outs))) (more .named)) (line endForm []));
       result = rw (append-assoc (d .outs) (i ∷ []) (more .named), line-is) at (more .result);
     }
 
@@ -81,12 +82,8 @@ record NodesTold (m k : ℕ) (d : Diagram) (n : ℕ) (s : List ℕ) (t : ReadTex
   named : List ℕ
   node-count : length nodes ≡ m
   count : length named ≡ k
-  text : s ≡ nodeLines (idCount d) nodes ++ (outputLines (length (d .outs)) named ++ line endForm [])
+  text : s ≡ nodeLines (idCount d) nodes ++ (outLines (length (d .outs)) named ++ line endForm [])
   result : t ≡ record { diagram = made (d .switches) (d .one) (d .nodes ++ nodes) (d .outs ++ named); last = n + m + k }
-
-node-turn : (d : Diagram) (i : ℕ) (e : Node) → nodeFault d i e ≡ 0 → i ≡ idCount d
-unfolding nodeFault
-node-turn d i e h = eqb-true i (idCount d) (not-false (eqb i (idCount d)) (not-met 2 _ _ h))
 
 nodes-told :
     (m k : ℕ) (d : Diagram) (n : ℕ) (s : List ℕ) (t : ReadText) → readNodes m k d n (linesOf s) ≡ done t → NodesTold m k d n s t
@@ -110,7 +107,7 @@ nodes-told (suc m) k d n s t h =
     let told = due-taken nodeForm n s (taken .0) (taken .1) in
     let rest = told .0 in
     let shape : vs ≡ (2 + length (d .nodes)) ∷ e .x ∷ e .l ∷ e .h ∷ e .t ∷ [] =
-    node-values vs (told .3) .0 ∙ ap (λ (i : ℕ). i ∷ e .x ∷ e .l ∷ e .h ∷ e .t ∷ []) (node-turn d (getD vs 0 0) e (kept .0)) in
+    node-values vs (told .3) .0 ∙ ap (λ (i : ℕ). i ∷ e .x ∷ e .l ∷ e .h ∷ e .t ∷ []) (node-id d (getD vs 0 0) e (kept .0)) in
     let more = nodes-told m k (withNode d e) (n + 1) rest t (rw (told .2) at (kept .1)) in
     let next : 2 + length (d .nodes ++ (e ∷ [])) ≡ suc (2 + length (d .nodes)) = simp length-append (omega arith) in
     let line-is : n + 1 + m + k ≡ n + suc m + k = omega arith in
@@ -155,7 +152,7 @@ text-told s t h =
     let text : s ≡ jobText (made v one ns os) =
     told .1
     ∙ ap (λ (r : List ℕ). line jobForm vs ++ r) (told₂ .1 ∙ ap (λ (r : List ℕ). line oneForm us ++ r) (more .text))
-    ∙ ap (λ (ws : List ℕ). line jobForm ws ++ (line oneForm us ++ (nodeLines 2 ns ++ (outputLines 0 os ++ line endForm [])))) sizes
-    ∙ ap (λ (ws : List ℕ). line jobForm (v ∷ length ns ∷ length os ∷ []) ++ (line oneForm ws ++ (nodeLines 2 ns ++ (outputLines 0 os ++ line endForm [])))) shape₂
+    ∙ ap (λ (ws : List ℕ). line jobForm ws ++ (line oneForm us ++ (nodeLines 2 ns ++ (outLines 0 os ++ line endForm [])))) sizes
+    ∙ ap (λ (ws : List ℕ). line jobForm (v ∷ length ns ∷ length os ∷ []) ++ (line oneForm ws ++ (nodeLines 2 ns ++ (outLines 0 os ++ line endForm [])))) shape₂
     ∙ sym (text-front (made v one ns os)) in
     rw result (text, refl)

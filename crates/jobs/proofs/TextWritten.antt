@@ -2,7 +2,7 @@
 use Prim.Native.Nat.{ℕ, suc, _+_, _≤_, _<_}
 use mathlib.Core.Path.{_≡_, refl, sym, ap, subst, _∙_}
 use mathlib.Core.Logic.{_⊎_, inl, inr}
-use mathlib.Core.Bool.{Bool, true, false, not, _&&_}
+use mathlib.Core.Bool.{true, false, not, _&&_}
 use mathlib.Core.List.{List, [], _∷_, _++_, append-assoc, append-nil}
 use native.Mathlib.Omega.{arith}
 use lib.ListN.{length, getD, length-append, List·getD-append}
@@ -13,19 +13,20 @@ use Rattle.common.specs.Labels.{labelH, labelV, labelB}
 use Rattle.common.specs.Limits.{maxSwitches, maxNodes, maxOutputs}
 use Rattle.common.specs.Lists.{any-of}
 use Rattle.common.specs.Outcome.{done, lowest}
-use Rattle.common.proofs.Lists.{and-left, and-right, by-test}
+use Rattle.common.proofs.Lists.{and-left, and-right, by-test, and-false}
 use Rattle.common.proofs.Outcome.{then-is, unless-none}
 use Rattle.figures.specs.Line.{linesOf, follows}
 use Rattle.forms.specs.Template.{line}
 use Rattle.forms.specs.Due.{due}
-use Rattle.forms.specs.Forms.{jobForm, oneForm, nodeForm, outForm, endForm}
+use Rattle.forms.specs.Forms.{jobForm, oneForm, nodeForm, outForm, endForm, outLines}
 use Rattle.forms.proofs.Template.{due-written, job-apart, one-apart, node-apart, out-apart, end-apart, job-fits, one-fits, node-fits, out-fits, end-fits}
 use Rattle.diagram.specs.declared.Node.{Node}
 use Rattle.diagram.specs.Diagram.{Diagram, terminal, entries, entry, idCount, switchAt, labelAt, bare, withNode, withOut}
 use Rattle.diagram.specs.Faults.{headFault, oneFault, unordered, sameTest, alike, nodeFault, outFault}
 use Rattle.diagram.specs.Facts.{Facts, NodeFacts}
 use Rattle.jobs.specs.Reading.{nodeOf, readEnd, readOuts, readNodes, readOne, readHead, readText}
-use Rattle.jobs.specs.Text.{nodeLines, outputLines, jobText, HeadSizes}
+use Rattle.jobs.specs.Text.{nodeLines, jobText, HeadSizes}
+use Rattle.diagram.proofs.Tables.{any-of-by}
 
 -- every figure of a job in range has at most 5 digits
 limits-fit : (maxSwitches < 100000) × (2 + maxNodes < 100000) × (maxOutputs < 100000)
@@ -35,14 +36,6 @@ limits-fit = (omega arith, omega arith, omega arith)
 -- a diagram by its parts
 abbrev pub made : ℕ → ℕ → List Node → List ℕ → Diagram
 made v t ns os = record { switches = v; one = t; nodes = ns; outs = os }
-
--- no entry meets a test
-any-of-never : (f : Node → Bool) (l : List Node) (d : Node) → ((k : ℕ) → k < length l → f (getD l k d) ≡ false) → any-of f l ≡ false
-unfolding any-of
-any-of-never f [] d h = refl
-any-of-never f (a ∷ l) d h =
-    let first : f a ≡ false = h 0 (omega arith) in
-    rw first (any-of-never f l d (λ k below. h (suc k) (omega arith)))
 
 -- the entries of the ids before a node are those of the whole diagram, and the node has the next id
 module _ (v t : ℕ) (ns : List Node) (n : Node) (rest : List Node) (os : List ℕ) where
@@ -68,10 +61,6 @@ module _ (v t : ℕ) (ns : List Node) (n : Node) (rest : List Node) (os : List �
   ordered c below later =
       let later′ : n .x < switchAt before c = subst (λ (e : Node). n .x < e .x) (entry-before c below) later in
       rw (lt-ltb (n .x) (switchAt before c) later′) (and-false (leb 2 c))
-    where
-      and-false : (b : Bool) → b && false ≡ false
-      and-false true = refl
-      and-false false = refl
 
   module _ (facts : Facts whole) where
     node-facts : NodeFacts whole (2 + length ns)
@@ -83,7 +72,7 @@ module _ (v t : ℕ) (ns : List Node) (n : Node) (rest : List Node) (os : List �
     -- no earlier node is the same
     new : any-of (sameTest n) ns ≡ false
     unfolding entry entries sameTest idCount
-    new = any-of-never (sameTest n) ns (terminal v 0 0) (λ k below. unlike k below (by-test (sameTest n (getD ns k (terminal v 0 0)))))
+    new = any-of-by (sameTest n) ns (terminal v 0 0) (λ k below. unlike k below (by-test (sameTest n (getD ns k (terminal v 0 0)))))
       where
         unlike : (k : ℕ) → k < length ns → (sameTest n (getD ns k (terminal v 0 0)) ≡ true) ⊎ (sameTest n (getD ns k (terminal v 0 0)) ≡ false) → sameTest n (getD ns k (terminal v 0 0)) ≡ false
         unlike k below (inr none) = none
@@ -214,9 +203,9 @@ module _ (v t : ℕ) (ns : List Node) (all : List ℕ) (facts : Facts (made v t 
   outs-read :
       (is os : List ℕ) (n : ℕ)
       → os ++ is ≡ all
-      → readOuts (length is) (made v t ns os) n (linesOf (outputLines (length os) is ++ line endForm []))
+      → readOuts (length is) (made v t ns os) n (linesOf (outLines (length os) is ++ line endForm []))
       ≡ done (record { diagram = made v t ns all; last = n + length is })
-  unfolding readOuts outputLines withOut
+  unfolding readOuts outLines withOut
   outs-read [] os n e =
       let same : os ≡ all = sym (append-nil os) ∙ e in
       let line-is : n + 0 ≡ n = omega arith in
@@ -232,8 +221,8 @@ module _ (v t : ℕ) (ns : List Node) (all : List ℕ) (facts : Facts (made v t 
       let joined : (os ++ (i ∷ [])) ++ is ≡ all = append-assoc os (i ∷ []) is ∙ e in
       let line-is : n + 1 + length is ≡ n + suc (length is) = omega arith in
       let fits = out-fits j i (omega arith) (omega arith) in
-      rw (append-assoc (line outForm (j ∷ i ∷ [])) (outputLines (suc j) is) (line endForm []))
-      (then-is _ _ _ (due-written outForm (j ∷ i ∷ []) n (outputLines (suc j) is ++ line endForm []) out-apart fits)
+      rw (append-assoc (line outForm (j ∷ i ∷ [])) (outLines (suc j) is) (line endForm []))
+      (then-is _ _ _ (due-written outForm (j ∷ i ∷ []) n (outLines (suc j) is ++ line endForm []) out-apart fits)
       ∙ unless-none _ n _ (out-right (made v t ns os) i (counted os i named) in-row)
       ∙ (rw (next, line-is) at (outs-read is (os ++ (i ∷ [])) (n + 1) joined)))
 
@@ -252,7 +241,7 @@ pub text-front :
     (d : Diagram)
     → jobText d
     ≡ line jobForm (d .switches ∷ length (d .nodes) ∷ length (d .outs) ∷ [])
-    ++ (line oneForm (d .one ∷ []) ++ (nodeLines 2 (d .nodes) ++ (outputLines 0 (d .outs) ++ line endForm [])))
+    ++ (line oneForm (d .one ∷ []) ++ (nodeLines 2 (d .nodes) ++ (outLines 0 (d .outs) ++ line endForm [])))
 unfolding jobText
 text-front d = simp append-assoc
 
@@ -269,7 +258,7 @@ written-read d facts sizes =
     let os = d .outs in
     let small = limits-fit in
     let one = one-right (d .one) (facts .one-label) in
-    let ends = outputLines 0 os ++ line endForm [] in
+    let ends = outLines 0 os ++ line endForm [] in
     let fits = job-fits v (length ns) (length os) (omega (arith, sizes .switches-most)) (omega (arith, sizes .nodes-most)) (omega (arith, sizes .outs-most)) in
     ap readText (text-front d)
     ∙ then-is _ _ _ (due-written jobForm (v ∷ length ns ∷ length os ∷ []) 1 (line oneForm (d .one ∷ []) ++ (nodeLines 2 ns ++ ends)) job-apart fits)

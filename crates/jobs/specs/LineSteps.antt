@@ -1,10 +1,9 @@
 -- What is said of one line alone, number n of the text s, which starts at a position: its refusal, or its values and the position past
 -- it. Document 01, "Grounds for sending a job back": "the first faulty line decides, and in it the lowest number", and a refusal is
 -- "0 as .. field of a record".
-use Prim.Native.Nat.{ℕ, _+_, _≤_}
+use Prim.Native.Nat.{ℕ, _+_}
 use mathlib.Core.List.{List, [], _∷_}
 use lib.ListN.{getD, drop}
-use Rattle.common.specs.Limits.{maxSwitches, maxNodes, maxOutputs}
 use Rattle.common.specs.Outcome.{Outcome, done, _then_, _when_, lowest, unless, refusalOf, valueOf}
 use Rattle.common.specs.declared.Refusal.{Refusal}
 use Rattle.figures.specs.Line.{Lines, linesOf, follows, lineEnd}
@@ -90,9 +89,3 @@ lastLine s at n = refusalOf (endDue n (linesOf (drop at s)))
 -- how the reading goes on after a line's answer: what follows, unless there is a refusal
 abbrev pub unlessRefused : {A : Type 0} → Refusal → Outcome A → Outcome A
 unlessRefused r rest = unless (r .number) (r .line) rest
-
--- the ranges of the first line's figures
-pub record HeadRanges (v n k : ℕ) : Type 0 where
-  pub switches-most : v ≤ maxSwitches
-  pub nodes-most : n ≤ maxNodes
-  pub outputs-most : k ≤ maxOutputs

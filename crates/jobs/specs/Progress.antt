@@ -1,17 +1,16 @@
 -- Where the reader stands among the lines of a job, step by step: what the first two lines say, the nodes one by one, and the outputs.
-use Prim.Native.Nat.{ℕ, zero, suc, _+_, _*_, _≤_}
+use Prim.Native.Nat.{ℕ, zero, suc, _+_, _≤_}
 use mathlib.Core.Path.{_≡_}
 use mathlib.Core.Bool.{true, false}
 use mathlib.Core.List.{List, []}
 use lib.ListN.{length, getD, take, drop}
 use lib.Dec.{leb}
-use Rattle.common.specs.Limits.{maxIds, maxSwitches, maxNodes, maxOutputs}
+use Rattle.common.specs.Limits.{maxSwitches, maxNodes, maxOutputs}
 use Rattle.common.specs.Lists.{zeros}
 use Rattle.common.specs.declared.Refusal.{Refusal}
 use Rattle.figures.specs.Line.{linesOf}
-use Rattle.diagram.specs.declared.Node.{Node}
 use Rattle.diagram.specs.Diagram.{Diagram}
-use Rattle.diagram.specs.Table.{entryIn, withEntry, opened, tabled, Terminals}
+use Rattle.diagram.specs.Table.{entryIn, withEntry, opened, tabled, Terminals, tableLength}
 use Rattle.diagram.specs.Seen.{maxSeen, Marked}
 use Rattle.jobs.specs.declared.HeadLine.{HeadLine}
 use Rattle.jobs.specs.declared.OneLine.{OneLine}
@@ -65,7 +64,7 @@ openingRead s = afterHead s (headLine s 0 1)
 
 -- the table before the first node: the terminals' entries, as the first two lines say them
 unfoldable pub firstTable : List ℕ → List ℕ
-firstTable s = opened (zeros (4 * maxIds)) (openingRead s .switches) (openingRead s .one)
+firstTable s = opened (zeros tableLength) (openingRead s .switches) (openingRead s .one)
 
 -- after a node's line that is accepted, and after one whose answer is r
 unfoldable pub foundAt : Progress → NodeLine → Progress

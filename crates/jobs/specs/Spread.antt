@@ -1,13 +1,12 @@
 -- How the node table is spread into the flat table that the walk and the placement look up.
-use Prim.Native.Nat.{ℕ, zero, suc, _+_, _*_}
-use mathlib.Core.List.{List, [], _∷_, _++_}
-use lib.ListN.{length, getD}
-use Rattle.common.specs.Limits.{maxIds}
+use Prim.Native.Nat.{ℕ, zero, suc, _+_}
+use mathlib.Core.List.{List, [], _∷_}
+use lib.ListN.{getD}
 use Rattle.common.specs.Lists.{zeros}
 use Rattle.diagram.specs.declared.Node.{Node}
 use Rattle.diagram.specs.Diagram.{Diagram, entries, no-node}
 use Rattle.jobs.specs.declared.JobRead.{JobRead}
-use Rattle.diagram.specs.Table.{withEntry, opened}
+use Rattle.diagram.specs.Table.{withEntry, opened, tableLength}
 
 -- four numbers an entry, X, L, H and T
 unfoldable pub entryNumbers : List Node → List ℕ
@@ -27,6 +26,6 @@ spread t ns (suc n) = withEntry (spread t ns n) (n + 2) (getD ns n no-node)
 unfoldable pub begun : JobRead → List ℕ
 begun r =
     elim (r .refusal .number) [
-      | zero ↦ opened (zeros (4 * maxIds)) (r .job .switches) (r .job .one)
-      | suc k ↦ zeros (4 * maxIds)
+      | zero ↦ opened (zeros tableLength) (r .job .switches) (r .job .one)
+      | suc k ↦ zeros tableLength
     ]

@@ -9,7 +9,7 @@ use lib.ListN.{length}
 use Rattle.common.specs.Limits.{maxSwitches, maxNodes, maxOutputs}
 use Rattle.common.specs.Outcome.{done}
 use Rattle.forms.specs.Template.{line}
-use Rattle.forms.specs.Forms.{jobForm, oneForm, nodeForm, outForm, endForm}
+use Rattle.forms.specs.Forms.{jobForm, oneForm, nodeForm, endForm, outLines}
 use Rattle.diagram.specs.declared.Node.{Node}
 use Rattle.diagram.specs.Diagram.{Diagram}
 use Rattle.diagram.specs.Facts.{Facts, Sizes}
@@ -21,18 +21,13 @@ unfoldable pub nodeLines : ℕ → List Node → List ℕ
 nodeLines i [] = []
 nodeLines i (n ∷ ns) = line nodeForm (i ∷ n .x ∷ n .l ∷ n .h ∷ n .t ∷ []) ++ nodeLines (suc i) ns
 
--- 4: lines `(out J I)`, from output j on
-unfoldable pub outputLines : ℕ → List ℕ → List ℕ
-outputLines j [] = []
-outputLines j (i ∷ is) = line outForm (j ∷ i ∷ []) ++ outputLines (suc j) is
-
--- 1: `(job V N K)`, 2: `(one T)`, 3 and 4, the nodes from id 2 and the outputs from output 0 on, and 5: `(end)`
+-- 1: `(job V N K)`, 2: `(one T)`, 3: the nodes from id 2 on, 4: lines `(out J I)` from output 0 on, and 5: `(end)`
 unfoldable pub jobText : Diagram → List ℕ
 jobText d =
     line jobForm (d .switches ∷ length (d .nodes) ∷ length (d .outs) ∷ [])
     ++ line oneForm (d .one ∷ [])
     ++ nodeLines 2 (d .nodes)
-    ++ outputLines 0 (d .outs)
+    ++ outLines 0 (d .outs)
     ++ line endForm []
 
 -- the sizes that ground 2 asks for

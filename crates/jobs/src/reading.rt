@@ -15,12 +15,12 @@ use diagram::table::TABLE;
 use diagram::wires;
 ghost use mathlib.Core.Path.{_≡_};
 ghost use mathlib.Core.List.{[]};
-ghost use Prim.Native.Nat.{_+_, _*_, _≤_};
+ghost use Prim.Native.Nat.{_+_, _≤_};
 ghost use lib.ListN.{drop, take};
-ghost use Rattle.common.specs.Limits.{maxIds, maxNodes, maxOutputs};
+ghost use Rattle.common.specs.Limits.{maxNodes, maxOutputs};
 ghost use Rattle.common.specs.Lists.{zeros};
 ghost use Rattle.figures.specs.Line.{linesOf};
-ghost use Rattle.diagram.specs.Table.{tabled, Terminals};
+ghost use Rattle.diagram.specs.Table.{tableLength, tabled, Terminals};
 ghost use Rattle.diagram.specs.Seen.{maxSeen};
 ghost use Rattle.jobs.specs.Answer.{noJob, jobRead};
 ghost use Rattle.jobs.specs.Job.{sizeTested};
@@ -124,7 +124,7 @@ pub fn next_node(
 
 // The first two lines, and the first node's line, if one is due.
 pub fn first_node(text: &[u8], table: &mut [u16; TABLE], seen: &mut [u8; SEEN]) -> Progress
-    requires { ⌜ (now table ≡ zeros (4 * maxIds)) × (now seen ≡ zeros maxSeen) ⌝ }
+    requires { ⌜ (now table ≡ zeros tableLength) × (now seen ≡ zeros maxSeen) ⌝ }
     ensures { λ r. ⌜ Started (now (text .entry)) r (now (table .exit)) (now (seen .exit)) ⌝ }
 {
     let p = read_opening(text);

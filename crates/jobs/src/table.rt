@@ -10,11 +10,12 @@ use diagram::table;
 use diagram::table::TABLE;
 ghost use mathlib.Core.Path.{_≡_};
 ghost use mathlib.Core.List.{_++_};
-ghost use Prim.Native.Nat.{_-_, _*_, _≤_, _<_};
+ghost use Prim.Native.Nat.{_-_, _≤_, _<_};
 ghost use lib.ListN.{length, getD, set, take, replicate};
-ghost use Rattle.common.specs.Limits.{maxIds, maxNodes};
+ghost use Rattle.common.specs.Limits.{maxNodes};
 ghost use Rattle.common.specs.Outcome.{Answered};
 ghost use Rattle.diagram.specs.Diagram.{no-node};
+ghost use Rattle.diagram.specs.Table.{tableLength};
 ghost use Rattle.jobs.specs.Answer.{jobRead};
 ghost use Rattle.jobs.specs.Job.{accepted, table};
 ghost use Rattle.jobs.specs.Spread.{flat, begun, spread};
@@ -115,7 +116,7 @@ fn spread(nodes: &[Node], read: JobRead, table: &mut [u16; TABLE])
 
 // Lends the reader a node table, and spreads it: the flat table of an accepted job, zeros after a refusal.
 pub fn read_diagram(text: &[u8], table: &mut [u16; TABLE]) -> JobRead
-    ensures { λ r. ⌜ Answered (accepted (now (text .entry))) jobRead flat (4 * maxIds) r (now (table .exit)) ⌝ }
+    ensures { λ r. ⌜ Answered (accepted (now (text .entry))) jobRead flat tableLength r (now (table .exit)) ⌝ }
 {
     let mut nodes = [Node {
         x: 0,

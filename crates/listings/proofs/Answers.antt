@@ -1,25 +1,25 @@
 -- What print answers, by case; and a listing written part by part.
-use Prim.Native.Nat.{ℕ, zero, suc, _+_, _-_, _*_, _≤_, _<_}
-use mathlib.Core.Path.{_≡_, refl, sym, ap, _∙_}
-use mathlib.Core.Bool.{true, false, not}
+use Prim.Native.Nat.{ℕ, _+_, _*_, _≤_, _<_}
+use mathlib.Core.Path.{_≡_, ap, _∙_}
+use mathlib.Core.Bool.{true, false}
 use mathlib.Core.List.{List, [], _∷_, _++_, append-assoc}
 use native.Mathlib.Omega.{arith}
-use lib.ListN.{length, take, drop, length-replicate}
-use lib.Dec.{ltb}
+use lib.ListN.{length, length-replicate}
 use borrow.Author.Tests.{lt-ltb, le-ltb}
 use Rattle.common.specs.Lists.{zeros, padded}
 use Rattle.common.specs.Limits.{maxOutputs}
-use Rattle.common.specs.Outcome.{Outcome, done, refused, _when_, lowest, unless, refusalOf, numberOf, lineOf, valueOf, bufferOf, Answered}
+use Rattle.common.specs.Outcome.{done, refused, lowest, unless, refusalOf, numberOf, lineOf, valueOf, bufferOf, Answered}
+use Rattle.common.proofs.Lists.{drop-zeros}
 use Rattle.figures.specs.Position.{splice}
 use Rattle.cells.specs.declared.Crossbar.{Crossbar}
 use Rattle.cells.specs.Record.{size, sound}
+use Rattle.cells.proofs.Sizes.{sound-facts}
 use Rattle.forms.specs.Template.{line}
 use Rattle.forms.specs.Forms.{crossbarForm, endForm}
 use Rattle.forms.specs.Written.{Written}
 use Rattle.listings.specs.declared.printing.Printed.{Printed}
-use Rattle.listings.specs.Listing.{cellLines, outLines, listing, print}
-use Rattle.listings.specs.Printing.{printed, textAnswer, refusedAnswer, cellText, outText, RowsIn}
-use Rattle.listings.proofs.Printed.{Sound, sound-facts}
+use Rattle.listings.specs.Listing.{listing, print}
+use Rattle.listings.specs.Printing.{printed, cellText, outText, RowsIn}
 
 module _ (x : Crossbar) (cells : List ℕ) where
   -- the first line, the cells', the outputs' and the last one
@@ -59,21 +59,6 @@ module _ (x : Crossbar) (cells : List ℕ) where
     unfolding print lowest unless
     print-fits h k = rw (h, le-ltb room (length (listing x cells)) k)
 
--- a refusal leaves zeros
-pub answered-refused :
-    (o : Outcome (List ℕ)) (room k : ℕ) (r : Printed) (out : List ℕ)
-    → o ≡ refused k 0
-    → r ≡ refusedAnswer k
-    → out ≡ zeros room
-    → Answered o printed (λ (t : List ℕ). t) room r out
-unfolding printed refusalOf numberOf lineOf valueOf bufferOf
-answered-refused o room k r out e a b = record { answer = rw e a; buffer = rw e b }
-
-drop-zeros : (k n : ℕ) → drop k (zeros n) ≡ zeros (n - k)
-drop-zeros zero n = let e : n - 0 ≡ n = omega arith in rw e
-drop-zeros (suc k) zero = let e : 0 - suc k ≡ 0 = omega arith in rw e
-drop-zeros (suc k) (suc n) = let e : suc n - suc k ≡ n - k = omega arith in drop-zeros k n ∙ ap zeros (sym e)
-
 -- a text written at the start of zeros
 pub splice-zeros : (room : ℕ) (w : List ℕ) → splice (zeros room) 0 w ≡ padded room w
 unfolding splice padded
@@ -85,7 +70,7 @@ module _ (x : Crossbar) (cells s t : List ℕ) (room n : ℕ) (h : sound x cells
   clear-length = ap length z ∙ length-replicate room 0
 
   -- it fits
-  pub answered-done : (r : Printed) → n ≤ room → r ≡ textAnswer n → Answered (print x cells room) printed (λ (t : List ℕ). t) room r t
+  pub answered-done : (r : Printed) → n ≤ room → r ≡ record { refusal = record { number = 0; line = 0 }; length = n } → Answered (print x cells room) printed (λ (t : List ℕ). t) room r t
   unfolding printed refusalOf numberOf lineOf valueOf bufferOf
   answered-done r k a =
       let l = clear-length in

@@ -20,7 +20,7 @@ use Rattle.cells.specs.declared.Cell.the-variants.{Off, On, Yes, No}
 use Rattle.cells.specs.Code.{cellOf, codeOf}
 use Rattle.forms.specs.Template.{Template, word, figure, values, written, line}
 use Rattle.forms.specs.Forms.{onForm, yesForm, noForm, outForm}
-use Rattle.forms.proofs.Template.{Fits, apart, values-written, written-values, written-line, on-apart, yes-apart, no-apart, on-fits, yes-fits, no-fits, on-values, yes-values, no-values}
+use Rattle.forms.proofs.Template.{FitsTemplate, apart, values-written, written-values, written-line, on-apart, yes-apart, no-apart, on-fits, yes-fits, no-fits, on-values, yes-values, no-values}
 use Rattle.listings.specs.Listing.{cellLine, cellLines}
 use Rattle.forms.specs.Form.{Placed, placed}
 use Rattle.listings.specs.Loading.{switchBelow}
@@ -128,7 +128,7 @@ placed-no r c x hr hc hx =
 
 -- a line put in front of a text is the first of its lines
 pub line-first :
-    (t : Template) (vs s : List ℕ) → apart t ≡ true → Fits t vs → linesOf (line t vs ++ s) ≡ written t vs ⏎ linesOf s
+    (t : Template) (vs s : List ℕ) → apart t ≡ true → FitsTemplate t vs → linesOf (line t vs ++ s) ≡ written t vs ⏎ linesOf s
 unfolding line
 line-first t vs s a f = rw (append-assoc (written t vs) (10 ∷ []) s) (lines-first (written t vs) s (written-line t vs a f))
 
@@ -189,7 +189,7 @@ below-code v (No x) h = omega (arith, ltb-true x v h)
 
 -- a line that a form reads is the line of its values
 pub line-values :
-    (t : Template) (l vs ws : List ℕ) → values t l ≡ some vs → (Fits t vs → vs ≡ ws) → l ++ (10 ∷ []) ≡ line t ws
+    (t : Template) (l vs ws : List ℕ) → values t l ≡ some vs → (FitsTemplate t vs → vs ≡ ws) → l ++ (10 ∷ []) ≡ line t ws
 unfolding line
 line-values t l vs ws e shape =
     let w = written-values t l vs e in
@@ -213,15 +213,15 @@ cell-written-by :
 unfolding placed cellLine
 cell-written-by l p (some vs) b c ea eb ec h =
     same-line (record { row = getD vs 0 0; column = getD vs 1 0; cell = On }) p (l ++ (10 ∷ [])) (rw (ea, placed) at h)
-    (line-values onForm l vs _ ea (λ (f : Fits onForm vs). on-values vs f .0))
+    (line-values onForm l vs _ ea (λ (f : FitsTemplate onForm vs). on-values vs f .0))
 cell-written-by l p none (some vs) c ea eb ec h =
     same-line (record { row = getD vs 0 0; column = getD vs 1 0; cell = Yes (getD vs 2 0) }) p (l ++ (10 ∷ []))
     (rw (ea, eb, placed) at h)
-    (line-values yesForm l vs _ eb (λ (f : Fits yesForm vs). yes-values vs f .0))
+    (line-values yesForm l vs _ eb (λ (f : FitsTemplate yesForm vs). yes-values vs f .0))
 cell-written-by l p none none (some vs) ea eb ec h =
     same-line (record { row = getD vs 0 0; column = getD vs 1 0; cell = No (getD vs 2 0) }) p (l ++ (10 ∷ []))
     (rw (ea, eb, ec, placed) at h)
-    (line-values noForm l vs _ ec (λ (f : Fits noForm vs). no-values vs f .0))
+    (line-values noForm l vs _ ec (λ (f : FitsTemplate noForm vs). no-values vs f .0))
 cell-written-by l p none none none ea eb ec h =
     let q : none ≡ some p = rw (ea, eb, ec, placed) at h in
     absurd (let z : _≡_ {A = ℕ} 0 1 = cc in omega arith)

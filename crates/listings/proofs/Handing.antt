@@ -1,23 +1,28 @@
--- What load hands over, by the step at which it stops or comes to its end.
-use Prim.Native.Nat.{ℕ, _+_, _*_, _≤_, _<_}
+-- What the calls hand over: an outcome said otherwise, and load by the step at which it stops or comes to its end.
+use Prim.Native.Nat.{ℕ, zero, suc, _+_, _*_, _≤_, _<_}
 use mathlib.Core.Path.{_≡_, refl, sym, ap, _∙_}
+use mathlib.Core.Logic.{⊎-elim}
 use mathlib.Core.Bool.{true, false}
 use mathlib.Core.Option.{none}
-use mathlib.Core.List.{List, [], _∷_}
-use lib.ListN.{length, drop}
+use mathlib.Core.List.{List, [], _∷_, _++_}
+use lib.ListN.{length, getD, take, drop}
+use lib.Seq.{length-take-le}
+use lib.Dec.{eqb}
 use borrow.Author.Tests.{lt-ltb, le-ltb}
 use Rattle.common.specs.declared.Refusal.{Refusal}
 use Rattle.common.specs.Limits.{maxOutputs}
-use Rattle.common.specs.Lists.{padded}
+use Rattle.common.specs.Lists.{padded, all-of}
 use Rattle.common.specs.Outcome.{Outcome, done, refused, _then_, lowest, unless, refusalOf, numberOf, lineOf, valueOf, bufferOf, Answered}
-use Rattle.common.proofs.Lists.{true-or-false}
-use Rattle.figures.specs.Line.{linesOf}
+use Rattle.common.proofs.Lists.{true-or-false, below-or-not, padded-full}
+use Rattle.common.proofs.Outcome.{then-is}
+use Rattle.figures.specs.Line.{Lines, linesOf}
 use Rattle.cells.specs.Record.{Whole, size}
 use Rattle.forms.specs.declared.SizeForm.{SizeForm}
 use Rattle.forms.specs.declared.Form.the-variants as form
 use Rattle.forms.specs.declared.LineRead.{LineRead}
 use Rattle.forms.specs.Form.{sizeFrom}
-use Rattle.forms.specs.Forms.{crossbarForm}
+use Rattle.forms.specs.Forms.{crossbarForm, outForm, endForm}
+use Rattle.forms.specs.Due.{due}
 use Rattle.forms.specs.Read.{lineRead, refusalIn}
 use Rattle.forms.proofs.Sorts.{kindOf, valuesIn, ofKind, asSize}
 use Rattle.forms.proofs.LineReads.{size-kind, read-due, read-refused}
@@ -25,10 +30,10 @@ use Rattle.listings.specs.declared.loading.Loaded.{Loaded}
 use Rattle.listings.specs.declared.loading.Outputs.{Outputs}
 use Rattle.listings.specs.declared.loading.Reached.{Reached}
 use Rattle.listings.specs.declared.loading.Reached.the-variants as reached
-use Rattle.listings.specs.Loading.{Listed, sized, sizeFault, loadOuts, loadCells, loadFrom, recordOf, cellsOf, fitted}
+use Rattle.listings.specs.Loading.{Listed, sized, sizeFault, outRowFault, withOutRow, loadEnd, loadOuts, loadCells, loadFrom, recordOf, cellsOf, fitted}
 use Rattle.listings.specs.Loader.{loaded, listed, sizesIn, outputsOf, kept, CellsRead, CellsReached}
-use Rattle.listings.proofs.Kept.{kept-padded}
-use Rattle.listings.proofs.Loaded.{outs-told}
+use Rattle.listings.proofs.Kept.{rows-again, kept-cells}
+use Rattle.listings.proofs.Printed.{taken-padded}
 
 -- a refusal stands
 pub then-refused : {A B : Type 0} (o : Outcome A) (k l : ℕ) (f : A → Outcome B) → o ≡ refused k l → o then f ≡ refused k l
@@ -37,11 +42,11 @@ then-refused o k l f e = rw e
 
 -- the same outcome, and the same length of the buffer
 pub handed-as :
-    {o : Outcome Whole} {m : ℕ} {r : Loaded} {cells : List ℕ} (p : Outcome Whole) (room : ℕ)
+    {A B : Type 0} {o : Outcome A} {f : Outcome A → B} {bytes : A → List ℕ} {m : ℕ} {r : B} {after : List ℕ} (p : Outcome A) (room : ℕ)
     → p ≡ o
     → m ≡ room
-    → Answered o loaded (λ (w : Whole). w .codes) m r cells
-    → Answered p loaded (λ (w : Whole). w .codes) room r cells
+    → Answered o f bytes m r after
+    → Answered p f bytes room r after
 handed-as p room e k h = rw (e, ← k) h
 
 -- the same reading, and the same length of the buffer
@@ -62,7 +67,7 @@ pub handed-end :
 unfolding _then_
 handed-end o x m room e k h = rw (e, ← k) h
 
--- the record and the cells of a listing for which the buffer has room
+-- the record and the cells of a listing, by the room of the buffer
 module _ (s : SizeForm) (codes stands : List ℕ) (room : ℕ) where
   pub fitted-short : room < s .rows * s .columns → fitted room (listed s codes stands) ≡ refused 14 0
   unfolding lowest unless size recordOf
@@ -74,18 +79,46 @@ module _ (s : SizeForm) (codes stands : List ℕ) (room : ℕ) where
   unfolding lowest unless size recordOf
   fitted-long h = rw (le-ltb room (s .rows * s .columns) h)
 
-  pub handed-done :
-      (cells : List ℕ)
-      → cells ≡ kept room codes
-      → length codes ≤ s .rows * s .columns
-      → s .rows * s .columns ≤ room
-      → Answered (fitted room (listed s codes stands)) loaded (λ (w : Whole). w .codes) room
-      (record { refusal = record { number = 0; line = 0 }; head = recordOf (listed s codes stands) })
-      cells
-  unfolding loaded refusalOf numberOf lineOf valueOf bufferOf cellsOf
-  handed-done cells e h k =
-      handed-as (fitted room (listed s codes stands)) room (fitted-long k) refl
-      (record { answer = refl; buffer = e ∙ kept-padded room (s .rows * s .columns) codes h k })
+-- the buffer and the array hold what the lines say
+pub fitted-same :
+    (s : SizeForm) (codes stands cells outs : List ℕ) (room : ℕ)
+    → cells ≡ kept room codes
+    → length codes ≤ s .rows * s .columns
+    → padded maxOutputs stands ≡ outs
+    → fitted room (listed s codes stands) ≡ fitted room (listed s (take (s .rows * s .columns) cells) outs)
+unfolding recordOf cellsOf
+fitted-same s codes stands cells outs room e h o =
+    let n = s .rows * s .columns in
+    ⊎-elim
+    (λ (short : room < s .rows * s .columns). fitted-short s codes stands room short ∙ sym (fitted-short s (take n cells) outs room short))
+    (λ (long : s .rows * s .columns ≤ room).
+    fitted-long s codes stands room long
+    ∙ sym
+    (fitted-long s (take n cells) outs room long
+    ∙ rw (rows-again maxOutputs stands o, e, kept-cells room (s .rows * s .columns) codes h long)))
+    (below-or-not room (s .rows * s .columns))
+
+-- they are handed over
+pub handed-done :
+    (s : SizeForm) (cells outs : List ℕ)
+    → length outs ≡ maxOutputs
+    → all-of (λ b. eqb b 0) (drop (s .rows * s .columns) cells) ≡ true
+    → s .rows * s .columns ≤ length cells
+    → Answered (fitted (length cells) (listed s (take (s .rows * s .columns) cells) outs)) loaded (λ (w : Whole). w .codes) (length cells)
+    (record {
+      refusal = record { number = 0; line = 0 };
+      head = record { rows = s .rows; columns = s .columns; switches = s .switches; outputs = s .outputs; outs = outs };
+    })
+    cells
+unfolding loaded refusalOf numberOf lineOf valueOf bufferOf recordOf cellsOf
+handed-done s cells outs wide past k =
+    let n = s .rows * s .columns in
+    let front : length (take n cells) ≡ n = length-take-le n cells k in
+    handed-as (fitted (length cells) (listed s (take n cells) outs)) (length cells) (fitted-long s (take n cells) outs (length cells) k) refl
+    (record {
+      answer = rw (padded-full maxOutputs outs wide);
+      buffer = sym (rw (padded-full n (take n cells) front) (taken-padded n (length cells) cells refl k past));
+    })
 
 -- what the answers of the readers say
 pub cells-line :
@@ -116,14 +149,41 @@ unfolding outputsOf
 outputs-refused (done x) r e h = absurd (true-or-false (r .ok) (ap (λ (q : Outputs). q .ok) e) h)
 outputs-refused (refused k l) r e h = rw (ap (λ (q : Outputs). q .refusal) e)
 
+-- a step after a reading, taken at each of its ends
+then-in :
+    {A B C : Type 0} (o : Outcome A) (f : A → Outcome B) (g : A → Outcome C) (h : B → Outcome C)
+    → ((a : A) → g a ≡ f a then h)
+    → o then g ≡ o then f then h
+unfolding _then_
+then-in (done a) f g h e = e a
+then-in (refused k l) f g h e = refl
+
+unless-in : {A B : Type 0} (k n : ℕ) (o : Outcome A) (p : Outcome B) (h : A → Outcome B) → p ≡ o then h → unless k n p ≡ unless k n o then h
+unfolding unless _then_
+unless-in zero n o p h e = e
+unless-in (suc k) n o p h e = refl
+
+-- the output lines and the last line are read alike whatever the codes, and hand them on
+codes-on :
+    (s : SizeForm) (codes : List ℕ) (k : ℕ) (stands : List ℕ) (n : ℕ) (ls : Lines)
+    → loadOuts k (listed s codes stands) n ls ≡ loadOuts k (listed s [] stands) n ls then λ x. done (listed s codes (x .outs))
+unfolding loadOuts loadEnd outRowFault withOutRow
+codes-on s codes zero stands n ls =
+    then-in (due endForm n ls) _ _ _ (λ e. unless-in _ (n + 1) (done (listed s [] stands)) _ _ (sym (then-is _ (listed s [] stands) _ refl)))
+codes-on s codes (suc k) stands n ls =
+    then-in (due outForm n ls) _ _ _
+    (λ o. unless-in _ n _ _ _ (codes-on s codes k (stands ++ (getD (o .vals) 1 0 ∷ [])) (n + 1) (o .later)))
+
 -- the lines after the first, where the cell lines are read
 module _
     {text : List ℕ} {s : SizeForm} {at n next m : ℕ} {cells : List ℕ} {room : ℕ} (d : CellsRead text s at n next m cells room) (r : Outputs)
-    (is : (codes : List ℕ) → r ≡ outputsOf (loadOuts (s .outputs) (listed s codes []) m (linesOf (drop next text)))) where
+    (is : r ≡ outputsOf (loadOuts (s .outputs) (listed s [] []) m (linesOf (drop next text)))) where
   pub rest-refused :
       r .ok ≡ false → loadCells (listed s [] []) n (linesOf (drop at text)) ≡ refused (r .refusal .number) (r .refusal .line)
   rest-refused h =
-      d .same ∙ outputs-refused (loadOuts (s .outputs) (listed s (d .codes) []) m (linesOf (drop next text))) r (is (d .codes)) h
+      d .same
+      ∙ codes-on s (d .codes) (s .outputs) [] m (linesOf (drop next text))
+      ∙ then-refused _ _ _ _ (outputs-refused _ r is h)
 
   -- the output rows
   pub rest-done :
@@ -132,9 +192,8 @@ module _
       × (padded maxOutputs stands ≡ r .outs)
       × (loadCells (listed s [] []) n (linesOf (drop at text)) ≡ done (listed s (d .codes) stands))
   rest-done h =
-      let o = outputs-done (loadOuts (s .outputs) (listed s (d .codes) []) m (linesOf (drop next text))) r (is (d .codes)) h in
-      let t = outs-told (s .outputs) (listed s (d .codes) []) m (linesOf (drop next text)) (o .0) (o .1) in
-      (t .stands, ap (λ (x : Listed). padded maxOutputs (x .outs)) (t .result) ∙ o .2, d .same ∙ o .1 ∙ ap done (sym (t .result)))
+      let o = outputs-done (loadOuts (s .outputs) (listed s [] []) m (linesOf (drop next text))) r is h in
+      (o .0 .outs, o .2, d .same ∙ codes-on s (d .codes) (s .outputs) [] m (linesOf (drop next text)) ∙ then-is _ (o .0) _ (o .1))
 
 -- the first line
 module _ (text : List ℕ) (at n : ℕ) (r : LineRead) (read : r ≡ lineRead crossbarForm sizeFrom text at n) where

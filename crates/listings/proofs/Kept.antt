@@ -3,12 +3,14 @@
 use Prim.Native.Nat.{ℕ, zero, suc, _+_, _-_, _≤_, _<_}
 use mathlib.Core.Path.{_≡_, refl, sym, ap, _∙_}
 use mathlib.Core.Logic.{⊎-elim}
-use mathlib.Core.List.{List, [], _∷_, _++_, append-assoc}
+use mathlib.Core.Bool.{true}
+use mathlib.Core.List.{List, [], _∷_, _++_, append-assoc, append-nil}
 use native.Mathlib.Omega.{arith}
-use lib.ListN.{length, take, set, length-append, length-replicate, replicate-append-replicate}
-use lib.Seq.{length-take-le, take-all, take-append-le, take-set-lt, set-at, set-out, append-snoc}
-use Rattle.common.specs.Lists.{zeros, padded}
-use Rattle.common.proofs.Lists.{below-or-not, length-padded}
+use lib.ListN.{length, take, drop, set, drop-of-length-le, length-append, length-replicate, replicate-append-replicate}
+use lib.Dec.{eqb}
+use lib.Seq.{length-take-le, take-all, take-at, drop-at, take-append-le, take-set-lt, set-at, set-out, append-snoc}
+use Rattle.common.specs.Lists.{zeros, padded, all-of}
+use Rattle.common.proofs.Lists.{below-or-not, length-padded, all-of-zeros}
 use Rattle.listings.specs.Loader.{kept}
 
 -- the front of a list with zeros after it does not depend on how many there are, if there are enough
@@ -93,3 +95,32 @@ padded-set n s p a e h =
     let more : length (s ++ (a ∷ [])) ≡ suc p = simp length-append (omega arith) in
     let gap : n - length s ≡ suc (n - suc p) = omega arith in
     rw (gap, more) (set-at s 0 (zeros (n - suc p)) a p e ∙ sym (append-snoc s a (zeros (n - suc p))))
+
+-- padding again changes nothing
+padded-again : (n : ℕ) (s : List ℕ) → padded n (padded n s) ≡ padded n s
+unfolding padded
+padded-again n s =
+    let none-left : n - length (s ++ zeros (n - length s)) ≡ 0 = simp (length-append, length-replicate) (omega arith) in
+    rw none-left (append-nil (s ++ zeros (n - length s)))
+
+pub rows-again : (n : ℕ) (stands : List ℕ) {outs : List ℕ} → padded n stands ≡ outs → padded n outs ≡ padded n stands
+rows-again n stands e = rw (← e) (padded-again n stands)
+
+-- past the cells the buffer holds zeros, and up to there the codes of the cells, where it has room for them
+pub kept-past : (room n : ℕ) (codes : List ℕ) → length codes ≤ n → all-of (λ b. eqb b 0) (drop n (kept room codes)) ≡ true
+unfolding padded all-of
+kept-past room n codes h =
+    ⊎-elim
+    (λ (short : room < n). rw (drop-of-length-le (kept room codes) {i = n} (rw length-kept (omega arith))))
+    (λ (long : n ≤ room).
+    rw (kept-padded room n codes h long, drop-at (padded n codes) (zeros (room - length (padded n codes))) n (length-padded n codes h))
+    (all-of-zeros (λ b. eqb b 0) (room - length (padded n codes)) refl))
+    (below-or-not room n)
+
+pub kept-cells : (room n : ℕ) (codes : List ℕ) → length codes ≤ n → n ≤ room → padded n (take n (kept room codes)) ≡ padded n codes
+unfolding padded
+kept-cells room n codes h long =
+    let full = length-padded n codes h in
+    ap (λ (l : List ℕ). padded n (take n l)) (kept-padded room n codes h long)
+    ∙ ap (padded n) (take-at (padded n codes) (zeros (room - length (padded n codes))) n full)
+    ∙ padded-again n codes

@@ -5,7 +5,6 @@ use mathlib.Core.Logic.{⊎-elim}
 use mathlib.Core.Bool.{true}
 use mathlib.Core.List.{List, [], _∷_}
 use native.Mathlib.Omega.{arith}
-use native.Mathlib.Nat.{mul-le-mul}
 use lib.ListN.{length, take, length-append, length-take}
 use lib.Seq.{length-take-le}
 use lib.Dec.{leb, ltb}
@@ -15,17 +14,18 @@ use Rattle.common.specs.Lists.{all-of}
 use Rattle.common.proofs.Lists.{and-left, and-right, below-or-not}
 use Rattle.figures.specs.Bytes.{bytes}
 use Rattle.figures.specs.Figure.{decimal}
-use Rattle.figures.proofs.Writing.{length-one, length-two, length-three, length-four, length-five}
+use Rattle.figures.proofs.Writing.{length-most, length-one, length-two, length-three}
 use Rattle.cells.specs.declared.Cell.{Cell}
 use Rattle.cells.specs.declared.Cell.the-variants.{Off, On, Yes, No}
 use Rattle.cells.specs.declared.Crossbar.{Crossbar}
 use Rattle.cells.specs.Code.{codeOf, cellOf}
 use Rattle.cells.specs.Record.{size, sound}
 use Rattle.cells.proofs.Codes.{cell-code}
+use Rattle.cells.proofs.Sizes.{sound-facts}
 use Rattle.forms.specs.Template.{written, line}
-use Rattle.forms.specs.Forms.{endForm, crossbarForm, onForm, yesForm, noForm, outForm}
-use Rattle.listings.specs.Listing.{cellLine, cellLines, outLines, listing}
-use Rattle.listings.proofs.Printed.{sound-facts, placing}
+use Rattle.forms.specs.Forms.{endForm, crossbarForm, onForm, yesForm, noForm, outForm, outLines}
+use Rattle.listings.specs.Listing.{cellLine, cellLines, listing}
+use Rattle.listings.proofs.Printed.{placing}
 
 -- the digits of a figure
 module _ (n : ℕ) where
@@ -43,17 +43,6 @@ module _ (n : ℕ) where
       (λ (k : 100 ≤ n). omega (arith, length-three n k h))
       (below-or-not n 100)
 
-  pub five-most : length (decimal n) ≤ 5
-  five-most =
-      ⊎-elim
-      (λ (k : n < 1000). omega (arith, three-most k))
-      (λ (k : 1000 ≤ n).
-      ⊎-elim
-      (λ (l : n < 10000). omega (arith, length-four n k l))
-      (λ (l : 10000 ≤ n). omega (arith, length-five n l))
-      (below-or-not n 10000))
-      (below-or-not n 1000)
-
 -- the bytes of each line
 pub end-most : length (line endForm []) ≤ 6
 unfolding line written endForm bytes
@@ -61,7 +50,7 @@ end-most = omega arith
 
 crossbar-most : (r c v k : ℕ) → length (line crossbarForm (r ∷ c ∷ v ∷ k ∷ [])) ≤ 35
 unfolding line written crossbarForm bytes
-crossbar-most r c v k = simp length-append (omega (arith, five-most r, five-most c, five-most v, five-most k))
+crossbar-most r c v k = simp length-append (omega (arith, length-most r, length-most c, length-most v, length-most k))
 
 out-most : (j r : ℕ) → j < 100 → r < 1000 → length (line outForm (j ∷ r ∷ [])) ≤ 13
 unfolding line written outForm bytes
@@ -122,7 +111,7 @@ listing-most x codes h =
     let rows : x .rows ≤ 128 = f .sizes .rows-most in
     let columns : x .columns ≤ 128 = f .sizes .columns-most in
     let outputs : x .outputs ≤ 32 = f .sizes .outputs-most in
-    let cells : x .rows * x .columns ≤ 128 * 128 = mul-le-mul rows columns in
+    let cells : x .rows * x .columns ≤ 128 * 128 = f .sizes .cells-most in
     let full : length (take (x .rows * x .columns) codes) ≡ x .rows * x .columns = length-take-le (x .rows * x .columns) codes (f .enough) in
     let few : length (take (x .outputs) (x .outs)) ≤ x .outputs = simp length-take (omega arith) in
     let head = crossbar-most (x .rows) (x .columns) (x .switches) (x .outputs) in

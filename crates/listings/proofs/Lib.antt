@@ -1,5 +1,6 @@
 pub mod Answers
 pub mod Cells
+pub mod Faults
 pub mod Handing
 pub mod Kept
 pub mod Lengths

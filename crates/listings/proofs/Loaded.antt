@@ -5,15 +5,14 @@ use mathlib.Core.Bool.{Bool, true, not, _&&_}
 use mathlib.Core.Option.{Option, some, none}
 use mathlib.Core.List.{List, [], _∷_, _++_, append-assoc, append-nil}
 use native.Mathlib.Omega.{arith}
-use native.Mathlib.Nat.{mul-le-mul-right}
 use lib.ListN.{length, getD, length-append, length-replicate, take, drop, drop-of-length-le}
 use lib.Dec.{eqb, leb, ltb}
-use lib.Seq.{take-all, take-at, drop-at}
+use lib.Seq.{take-all, drop-at}
 use borrow.Author.Tests.{ltb-true, ltb-false, le-leb, eqb-true, not-true, not-false}
 use Rattle.common.specs.Lists.{zeros, padded, all-of}
 use Rattle.common.specs.Limits.{maxOutputs}
 use Rattle.common.specs.Outcome.{done}
-use Rattle.common.proofs.Lists.{and-both, and-left, and-right, length-padded, all-of-append, all-of-zeros, padded-full, padded-more}
+use Rattle.common.proofs.Lists.{within-grid, and-both, and-left, and-right, length-padded, all-of-append, all-of-zeros, take-padded}
 use Rattle.common.proofs.Outcome.{then-done, unless-done, not-met, others}
 use Rattle.figures.specs.Line.{Lines, left, _⏎_, linesOf, follows}
 use Rattle.figures.proofs.Line.{textOf, follows-none, text-lines}
@@ -21,21 +20,22 @@ use Rattle.cells.specs.declared.Cell.{Cell}
 use Rattle.cells.specs.Code.{codeOf}
 use Rattle.cells.specs.Record.{inRange, Whole, size, sound}
 use Rattle.cells.proofs.Codes.{code-cell}
+use Rattle.cells.proofs.Sizes.{in-range}
 use Rattle.forms.specs.Template.{Template, written, line}
-use Rattle.forms.specs.Forms.{outForm, crossbarForm, endForm}
+use Rattle.forms.specs.Forms.{outForm, crossbarForm, endForm, outLines}
 use Rattle.forms.specs.Due.{Taken, due}
-use Rattle.forms.proofs.Template.{Fits, written-values, due-line, out-values, end-values, crossbar-values}
-use Rattle.listings.specs.Listing.{cellLine, cellLines, outLines, listing}
+use Rattle.forms.proofs.Template.{FitsTemplate, written-values, due-line, out-values, end-values, crossbar-values}
+use Rattle.listings.specs.Listing.{cellLine, cellLines, listing}
 use Rattle.forms.specs.Form.{Placed, placed}
 use Rattle.listings.specs.Loading.{switchBelow, Listed, cellFault, withCell, outRowFault, withOutRow, loadEnd, loadOuts, loadCells, sized, sizeFault, loadFrom, recordOf, cellsOf, load}
 use Rattle.listings.proofs.Cells.{cell-lines-append, cell-lines-zeros, place-row, place-column, below-code, cell-written}
-use Rattle.listings.proofs.Printed.{soFar, in-range}
+use Rattle.listings.proofs.Printed.{soFar}
 
 -- a line that was taken: the text is the line of its values and then the text of the later lines
 pub line-taken :
     (t : Template) (n : ℕ) (ls : Lines) (o : Taken)
     → due t n ls ≡ done o
-    → (textOf ls ≡ line t (o .vals) ++ textOf (o .later)) × Fits t (o .vals)
+    → (textOf ls ≡ line t (o .vals) ++ textOf (o .later)) × FitsTemplate t (o .vals)
 unfolding line textOf
 line-taken t n ls o h =
     let d = due-line t n ls o h in
@@ -248,7 +248,7 @@ no-cell-told x s y h d =
 pub cell-room : (x : Listed) (p : Placed) → CellFacts x p → length (withCell x p .codes) ≤ withCell x p .rows * withCell x p .columns
 cell-room x p f =
     let most : suc (p .row * x .columns + p .column) ≤ x .rows * x .columns =
-    omega (arith, f .column-in, mul-le-mul-right (x .columns) (f .row-in)) in
+    within-grid (x .rows) (x .columns) (p .row) (p .column) (f .row-in) (f .column-in) in
     rw (length-with x p (f .later)) (unfold withCell in most)
 
 -- a line that is a cell's or is not
@@ -278,7 +278,7 @@ cells-told (l ⏎ ls) x n y h room =
     (λ (z : Listed) (g : loadCells z (n + 1) ls ≡ done y) (r : length (z .codes) ≤ z .rows * z .columns). cells-told ls z (n + 1) y g r) h
 
 -- what a listing says, within its sizes
-pub record Within (r c v k : ℕ) (codes stands : List ℕ) : Type 0 where
+pub record CellsWithin (r c v k : ℕ) (codes stands : List ℕ) : Type 0 where
   pub range : inRange r c v k ≡ true
   pub room : length codes ≤ r * c
   pub codes-low : all-of (λ q. leb q (1 + 2 * v)) codes ≡ true
@@ -291,10 +291,6 @@ cells-taken n codes h =
     let full = length-padded n codes h in
     take-all n (padded n codes) (omega arith) ∙ unfold padded in refl
 
-stands-taken : (n k : ℕ) (stands : List ℕ) → length stands ≡ k → take k (padded n stands) ≡ stands
-unfolding padded
-stands-taken n k stands e = take-at stands (zeros (n - length stands)) k e
-
 stands-left : (n k : ℕ) (stands : List ℕ) → length stands ≡ k → drop k (padded n stands) ≡ zeros (n - length stands)
 unfolding padded
 stands-left n k stands e = drop-at stands (zeros (n - length stands)) k e
@@ -302,7 +298,7 @@ stands-left n k stands e = drop-at stands (zeros (n - length stands)) k e
 -- ground 12 is not met by it
 listed-sound :
     (r c v k : ℕ) (codes stands : List ℕ)
-    → Within r c v k codes stands
+    → CellsWithin r c v k codes stands
     → sound (recordOf (soFar r c v k codes stands)) (cellsOf (soFar r c v k codes stands)) ≡ true
 unfolding sound recordOf cellsOf size
 listed-sound r c v k codes stands w =
@@ -315,7 +311,7 @@ listed-sound r c v k codes stands w =
     (all-of-append (λ q. leb q (1 + 2 * v)) codes (zeros (r * c - length codes)) (w .codes-low)
     (all-of-zeros (λ q. leb q (1 + 2 * v)) (r * c - length codes) (le-leb 0 (1 + 2 * v) (omega arith)))) in
     let stand : all-of (λ q. ltb q r) (take k (padded maxOutputs stands)) ≡ true =
-    rw (stands-taken maxOutputs k stands (w .count)) (w .rows-low) in
+    rw (take-padded maxOutputs k stands (w .count)) (w .rows-low) in
     let unused : all-of (λ q. eqb q 0) (drop k (padded maxOutputs stands)) ≡ true =
     rw (stands-left maxOutputs k stands (w .count)) (all-of-zeros (λ q. eqb q 0) (maxOutputs - length stands) refl) in
     rw (w .range, enough, past, low, stand, unused)
@@ -323,7 +319,7 @@ listed-sound r c v k codes stands w =
 -- and its text is that of its lines
 listed-text :
     (r c v k : ℕ) (codes stands : List ℕ)
-    → Within r c v k codes stands
+    → CellsWithin r c v k codes stands
     → listing (recordOf (soFar r c v k codes stands)) (cellsOf (soFar r c v k codes stands))
     ≡ line crossbarForm (r ∷ c ∷ v ∷ k ∷ []) ++ (cellLines c 0 codes ++ (outLines 0 stands ++ line endForm []))
 unfolding listing recordOf cellsOf size
@@ -331,7 +327,7 @@ listed-text r c v k codes stands w =
     let head = line crossbarForm (r ∷ c ∷ v ∷ k ∷ []) in
     let cut : cellLines c 0 (take (r * c) (padded (r * c) codes)) ≡ cellLines c 0 codes =
     rw (cells-taken (r * c) codes (w .room), cell-lines-append c 0 codes, cell-lines-zeros) (append-nil (cellLines c 0 codes)) in
-    rw (cut, stands-taken maxOutputs k stands (w .count))
+    rw (cut, take-padded maxOutputs k stands (w .count))
     (append-assoc (head ++ cellLines c 0 codes) (outLines 0 stands) (line endForm [])
     ∙ append-assoc head (cellLines c 0 codes) (outLines 0 stands ++ line endForm []))
 
@@ -343,7 +339,7 @@ pub record Told (s : List ℕ) (y : Listed) : Type 0 where
   pub outputs : ℕ
   pub codes : List ℕ
   pub stands : List ℕ
-  pub within : Within rows columns switches outputs codes stands
+  pub within : CellsWithin rows columns switches outputs codes stands
   pub result : soFar rows columns switches outputs codes stands ≡ y
   pub text :
       line crossbarForm (rows ∷ columns ∷ switches ∷ outputs ∷ [])

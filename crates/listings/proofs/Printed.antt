@@ -2,18 +2,18 @@
 use Prim.Native.Nat.{ℕ, zero, suc, _+_, _-_, _*_, _/_, _%_, _≤_, _<_}
 use mathlib.Core.Path.{_≡_, refl, sym, ap, _∙_}
 use mathlib.Core.Logic.{⊎-elim}
-use mathlib.Core.Bool.{Bool, true, _&&_}
+use mathlib.Core.Bool.{true}
 use mathlib.Core.Option.{some}
 use mathlib.Core.List.{List, [], _∷_, _++_, append-assoc, append-nil}
 use native.Mathlib.Omega.{arith}
 use native.Mathlib.Nat.{mod-lt, div-add-mod', div-lt-iff-lt-mul, mul-zero}
-use lib.ListN.{length, length-append, replicate-append-replicate, take, drop, length-drop, take-append-drop}
+use lib.ListN.{length, length-append, take, drop, length-drop, take-append-drop}
 use lib.Dec.{eqb, leb, ltb}
 use lib.Seq.{length-take-le}
-use borrow.Author.Tests.{lt-ltb, ltb-true, le-ltb, eq-eqb, leb-true, eqb-true}
+use borrow.Author.Tests.{ltb-true, le-ltb, leb-true, eqb-true}
 use Rattle.common.specs.Lists.{zeros, padded, all-of}
 use Rattle.common.specs.Limits.{maxRows, maxColumns, maxSwitches, maxOutputs}
-use Rattle.common.specs.Outcome.{Outcome, done, _then_, lowest, unless}
+use Rattle.common.specs.Outcome.{done, lowest}
 use Rattle.common.proofs.Lists.{and-left, and-right, length-padded, padded-more, padded-full}
 use Rattle.common.proofs.Outcome.{then-is, unless-none}
 use Rattle.figures.specs.Line.{Lines, _⏎_, linesOf, follows}
@@ -22,59 +22,21 @@ use Rattle.cells.specs.Code.{cellOf, codeOf}
 use Rattle.cells.specs.Record.{inRange, size, sound}
 use Rattle.cells.specs.declared.Crossbar.{Crossbar}
 use Rattle.cells.proofs.Codes.{cell-code}
+use Rattle.cells.proofs.Sizes.{SizesInRange, in-range, Sound, sound-facts}
 use Rattle.forms.specs.Template.{written, line}
-use Rattle.forms.specs.Forms.{outForm, crossbarForm, endForm}
+use Rattle.forms.specs.Forms.{outForm, crossbarForm, endForm, outLines}
 use Rattle.forms.specs.Due.{due}
 use Rattle.forms.proofs.Template.{due-written, out-apart, out-fits, end-apart, end-fits, crossbar-apart, crossbar-fits}
-use Rattle.listings.specs.Listing.{cellLine, cellLines, outLines, listing}
+use Rattle.listings.specs.Listing.{cellLine, cellLines, listing}
 use Rattle.forms.specs.Form.{Placed, placed}
-use Rattle.listings.specs.Loading.{switchBelow, Listed, cellFault, withCell, outRowFault, withOutRow, loadEnd, loadOuts, loadCells, sized, sizeFault, loadFrom, recordOf, cellsOf, load}
+use Rattle.listings.specs.Loading.{switchBelow, Listed, cellFault, withCell, withOutRow, loadEnd, loadOuts, loadCells, sized, sizeFault, loadFrom, recordOf, cellsOf, load}
+use Rattle.listings.proofs.Faults.{cell-named, stand-in}
 use Rattle.listings.proofs.Cells.{out-not-placed, line-first, Read, cell-read, code-below}
 
 -- every limit of a listing has a figure
 pub limits-fit : (maxRows < 100000) × (maxColumns < 100000) × (maxSwitches < 100000) × (maxOutputs < 100000)
 unfolding maxRows maxColumns maxSwitches maxOutputs
 limits-fit = (omega arith, omega arith, omega arith, omega arith)
-
--- sizes in range, as plain facts
-pub record Sizes (r c v k : ℕ) : Type 0 where
-  pub rows-least : 1 ≤ r
-  pub rows-most : r ≤ maxRows
-  pub columns-most : c ≤ maxColumns
-  pub switches-most : v ≤ maxSwitches
-  pub outputs-least : 1 ≤ k
-  pub outputs-most : k ≤ maxOutputs
-
--- six tests that hold together
-pub six :
-    (a b c d e f : Bool)
-    → a && b && c && d && e && f ≡ true
-    → (a ≡ true) × (b ≡ true) × (c ≡ true) × (d ≡ true) × (e ≡ true) × (f ≡ true)
-six a b c d e f h =
-    let h₅ = and-left (a && b && c && d && e) f h in
-    let h₄ = and-left (a && b && c && d) e h₅ in
-    let h₃ = and-left (a && b && c) d h₄ in
-    let h₂ = and-left (a && b) c h₃ in (
-      and-left a b h₂,
-      and-right a b h₂,
-      and-right (a && b) c h₃,
-      and-right (a && b && c) d h₄,
-      and-right (a && b && c && d) e h₅,
-      and-right (a && b && c && d && e) f h,
-    )
-
-pub in-range : (r c v k : ℕ) → inRange r c v k ≡ true → Sizes r c v k
-unfolding inRange
-in-range r c v k h =
-    let t = six (leb 1 r) (leb r maxRows) (leb c maxColumns) (leb v maxSwitches) (leb 1 k) (leb k maxOutputs) h in
-    record {
-      rows-least = leb-true 1 r (t .0);
-      rows-most = leb-true r maxRows (t .1);
-      columns-most = leb-true c maxColumns (t .2);
-      switches-most = leb-true v maxSwitches (t .3);
-      outputs-least = leb-true 1 k (t .4);
-      outputs-most = leb-true k maxOutputs (t .5);
-    }
 
 -- a listing so far
 abbrev pub soFar : (r c v k : ℕ) (codes outs : List ℕ) → Listed
@@ -88,15 +50,10 @@ end-read x n =
     (rw append-nil at (due-written endForm [] n [] end-apart end-fits))
     ∙ unless-none _ _ (done x) refl
 
--- an output in turn on a row of the crossbar has no fault
-stand-right : (x : Listed) (j r : ℕ) → j ≡ length (x .outs) → r < x .rows → outRowFault x j r ≡ 0
-unfolding outRowFault lowest
-stand-right x j r e h = rw (eq-eqb j (length (x .outs)) e, lt-ltb r (x .rows) h)
-
 -- the lines of the outputs and the last line
 pub outs-read :
     (r c v k : ℕ) (codes : List ℕ)
-    → Sizes r c v k
+    → SizesInRange r c v k
     → (rs outs : List ℕ) (n : ℕ)
     → length outs + length rs ≤ k
     → all-of (λ q. ltb q r) rs ≡ true
@@ -112,13 +69,13 @@ outs-read r c v k codes z (q ∷ rs) outs n room rows =
     let fits = out-fits (length outs) q (omega (arith, limits-fit)) (omega (arith, limits-fit)) in
     rw (append-assoc (line outForm (length outs ∷ q ∷ [])) (outLines (suc (length outs)) rs) (line endForm []))
     (then-is _ _ _ (due-written outForm (length outs ∷ q ∷ []) n (outLines (suc (length outs)) rs ++ line endForm []) out-apart fits)
-    ∙ unless-none _ n _ (stand-right (soFar r c v k codes outs) (length outs) q refl below)
+    ∙ unless-none _ n _ (stand-in (soFar r c v k codes outs) (length outs) q refl below)
     ∙ (rw (longer, moved) at (outs-read r c v k codes z rs (outs ++ (q ∷ [])) (n + 1) (rw longer (omega arith)) others)))
 
 -- the same after cell lines: the first line of an output is no cell line
 pub stands-read :
     (r c v k : ℕ) (codes : List ℕ)
-    → Sizes r c v k
+    → SizesInRange r c v k
     → (rs : List ℕ) (n : ℕ)
     → length rs ≡ k
     → all-of (λ q. ltb q r) rs ≡ true
@@ -152,23 +109,6 @@ placing r (suc c) p h =
       place-is = div-add-mod' p (suc c);
     }
 
--- a cell in the crossbar and after those named has no fault
-cell-right :
-    (x : Listed) (p : Placed)
-    → p .row < x .rows
-    → p .column < x .columns
-    → length (x .codes) ≤ p .row * x .columns + p .column
-    → switchBelow (x .switches) (p .cell) ≡ true
-    → cellFault x p ≡ 0
-unfolding cellFault lowest
-cell-right x p hr hc hp hs =
-    rw (
-      lt-ltb (p .row) (x .rows) hr,
-      lt-ltb (p .column) (x .columns) hc,
-      le-ltb (p .row * x .columns + p .column) (length (x .codes)) hp,
-      hs,
-    )
-
 -- a cell line taken
 cell-step :
     (x : Listed) (n : ℕ) (l : List ℕ) (ls : Lines) (p : Placed)
@@ -194,7 +134,7 @@ code-off q e = ap codeOf (sym e) ∙ cell-code q
 -- the codes that the lines of cells name are padded to those that were printed
 pub cells-read :
     (r c v k : ℕ)
-    → Sizes r c v k
+    → SizesInRange r c v k
     → (s rs : List ℕ)
     → ((codes : List ℕ) (n : ℕ) → loadCells (soFar r c v k codes []) n (linesOf s) ≡ done (soFar r c v k codes rs))
     → (ks codes : List ℕ) (p n : ℕ)
@@ -204,7 +144,7 @@ pub cells-read :
     → (more : List ℕ)
     × (padded (r * c) more ≡ padded p codes ++ ks)
     × (loadCells (soFar r c v k codes []) n (linesOf (cellLines c p ks ++ s)) ≡ done (soFar r c v k more rs))
-unfolding cellLines all-of cellLine
+unfolding cellLines all-of cellLine lowest
 cells-read r c v k z s rs rest [] codes p n short e small =
     let e′ : p ≡ r * c = omega arith in
     (codes, rw (append-nil, e′), rest codes n)
@@ -229,7 +169,7 @@ cells-read r c v k z s rs rest (q ∷ ks) codes p n short e small =
     let full : length (padded p codes ++ (q ∷ [])) ≡ suc p = simp (length-append, length-padded p codes short) (omega arith) in
     let later = cells-read r c v k z s rs rest ks (padded p codes ++ (q ∷ [])) (suc p) (n + 1) (omega arith) e′ others in
     let right =
-    cell-right (soFar r c v k codes []) (record { row = p / c; column = p % c; cell = cellOf q }) (w .row-in) (w .column-in)
+    cell-named (soFar r c v k codes []) (record { row = p / c; column = p % c; cell = cellOf q }) true (w .row-in) (w .column-in)
     (rw (w .place-is) short) names in (
       later .0,
       later .1
@@ -253,33 +193,6 @@ sizes-read r c v k n s h =
     then-is _ _ _
     (due-written crossbarForm (r ∷ c ∷ v ∷ k ∷ []) n s crossbar-apart (crossbar-fits r c v k (omega (arith, limits-fit)) (omega (arith, limits-fit)) (omega (arith, limits-fit)) (omega (arith, limits-fit))))
     ∙ unless-none _ n _ (rw h)
-
--- a sound crossbar, as plain facts
-pub record Sound (x : Crossbar) (cells : List ℕ) : Type 0 where
-  pub range : inRange (x .rows) (x .columns) (x .switches) (x .outputs) ≡ true
-  pub sizes : Sizes (x .rows) (x .columns) (x .switches) (x .outputs)
-  pub enough : size x ≤ length cells
-  pub past : all-of (λ b. eqb b 0) (drop (size x) cells) ≡ true
-  pub codes-low : all-of (λ k. leb k (1 + 2 * x .switches)) (take (size x) cells) ≡ true
-  pub rows-low : all-of (λ r. ltb r (x .rows)) (take (x .outputs) (x .outs)) ≡ true
-  pub unused : all-of (λ r. eqb r 0) (drop (x .outputs) (x .outs)) ≡ true
-
-pub sound-facts : (x : Crossbar) (cells : List ℕ) → sound x cells ≡ true → Sound x cells
-unfolding sound
-sound-facts x cells h =
-    let t =
-    six (inRange (x .rows) (x .columns) (x .switches) (x .outputs)) (leb (size x) (length cells))
-    (all-of (λ b. eqb b 0) (drop (size x) cells)) (all-of (λ k. leb k (1 + 2 * x .switches)) (take (size x) cells))
-    (all-of (λ r. ltb r (x .rows)) (take (x .outputs) (x .outs))) (all-of (λ r. eqb r 0) (drop (x .outputs) (x .outs))) h in
-    record {
-      range = t .0;
-      sizes = in-range (x .rows) (x .columns) (x .switches) (x .outputs) (t .0);
-      enough = leb-true (size x) (length cells) (t .1);
-      past = t .2;
-      codes-low = t .3;
-      rows-low = t .4;
-      unused = t .5;
-    }
 
 -- a list that holds zeros only
 zeros-only : (l : List ℕ) → all-of (λ b. eqb b 0) l ≡ true → l ≡ zeros (length l)

@@ -4,12 +4,12 @@ use mathlib.Core.Path.{_≡_, refl, ap, _∙_}
 use mathlib.Core.Option.{none}
 use mathlib.Core.List.{List, [], _∷_, _++_}
 use native.Mathlib.Omega.{arith}
-use native.Mathlib.Nat.{mul-le-mul-right}
-use lib.ListN.{length, drop, set}
+use lib.ListN.{length, drop, set, length-replicate}
 use Rattle.common.specs.Limits.{maxRows, maxColumns, maxSwitches}
 use Rattle.common.specs.Lists.{zeros, padded}
 use Rattle.common.specs.Outcome.{unless}
-use Rattle.common.proofs.Outcome.{unless-none}
+use Rattle.common.proofs.Lists.{within-grid}
+use Rattle.common.proofs.Outcome.{unless-none, unless-some}
 use Rattle.figures.specs.Line.{linesOf}
 use Rattle.cells.specs.Code.{codeOf}
 use Rattle.forms.specs.declared.SizeForm.{SizeForm}
@@ -23,8 +23,9 @@ use Rattle.listings.specs.Loading.{cellFault, withCell, loadCells}
 use Rattle.listings.specs.Loader.{listed, placedBy, kept, CellsReached}
 use Rattle.listings.proofs.Cells.{below-code}
 use Rattle.listings.proofs.Loaded.{cell-facts, length-with}
+use Rattle.listings.proofs.Faults.{codes-counted}
 use Rattle.listings.proofs.Kept.{length-kept, kept-none, kept-set}
-use Rattle.listings.proofs.Steps.{unless-some, cell-line, other-line, Ranged}
+use Rattle.listings.proofs.Steps.{cell-line, other-line, Ranged}
 
 -- cell lines from the position at, line n, on, with the next line at the position next, line m, and the cells before it in the first
 -- count places
@@ -57,20 +58,16 @@ pub record Right (s : SizeForm) (count : ℕ) (f : CellForm) : Type 0 where
   pub code-small : codeOf (f .cell) < 256
 
 pub right :
-    (s : SizeForm) (codes : List ℕ) (count : ℕ) (f : CellForm)
-    → Ranged s
-    → length codes ≡ count
-    → cellFault (listed s codes []) (placedBy f) ≡ 0
-    → Right s count f
+    (s : SizeForm) (count : ℕ) (f : CellForm) → Ranged s → cellFault (listed s (zeros count) []) (placedBy f) ≡ 0 → Right s count f
 unfolding maxSwitches
-right s codes count f z e h =
-    let w = cell-facts (listed s codes []) (placedBy f) h in
+right s count f z h =
+    let w = cell-facts (listed s (zeros count) []) (placedBy f) h in
     let code = below-code (s .switches) (f .cell) (w .switch-in) in
     record {
       row-small = omega (arith, w .row-in);
       column-small = omega (arith, w .column-in);
-      later = omega (arith, w .later);
-      inside = omega (arith, w .column-in, mul-le-mul-right (s .columns) (w .row-in));
+      later = rw length-replicate at (w .later);
+      inside = within-grid (s .rows) (s .columns) (f .row) (f .column) (w .row-in) (w .column-in);
       code-small = omega arith;
     }
 
@@ -97,14 +94,17 @@ module _ {text : List ℕ} {s : SizeForm} {at n room : ℕ} {cells : List ℕ} {
 
       step :
           loadCells (listed s [] []) n (linesOf (drop at text))
-          ≡ unless (cellFault (listed s (g .codes) []) (placedBy f)) m
+          ≡ unless (cellFault (listed s (zeros count) []) (placedBy f)) m
           (loadCells (withCell (listed s (g .codes) []) (placedBy f)) (m + 1) (linesOf (drop (r .next) text)))
-      step = g .same ∙ cell-line (listed s (g .codes) []) text next m r read f e (z .switches-most) .0
+      step =
+          g .same
+          ∙ cell-line (listed s (g .codes) []) text next m r read f e (z .switches-most) .0
+          ∙ rw (codes-counted s (g .codes) count (placedBy f) (g .counted))
 
       -- a cell line with a fault
       pub going-fault :
           (cells' : List ℕ) (k : ℕ)
-          → k ≡ cellFault (listed s (g .codes) []) (placedBy f)
+          → k ≡ cellFault (listed s (zeros count) []) (placedBy f)
           → (k ≡ 0 → ⊥)
           → CellsReached text s at n cells' room (reached.Refused (record { number = k; line = m }))
       unfolding CellsReached
@@ -113,7 +113,7 @@ module _ {text : List ℕ} {s : SizeForm} {at n room : ℕ} {cells : List ℕ} {
       -- a cell line without one
       pub going-more :
           (p code : ℕ) (stored : List ℕ)
-          → cellFault (listed s (g .codes) []) (placedBy f) ≡ 0
+          → cellFault (listed s (zeros count) []) (placedBy f) ≡ 0
           → p ≡ f .row * s .columns + f .column
           → code ≡ codeOf (f .cell)
           → stored ≡ set cells p code
@@ -121,13 +121,13 @@ module _ {text : List ℕ} {s : SizeForm} {at n room : ℕ} {cells : List ℕ} {
       unfolding withCell
       going-more p code stored h place coded is =
           let x = listed s (g .codes) [] in
-          let w = right s (g .codes) count f z (g .counted) h in
+          let w = right s count f z h in
           let q = f .row * s .columns + f .column in
           let after : length (g .codes) ≤ q = omega (arith, g .counted, w .later) in
           let full : length (padded q (g .codes) ++ (codeOf (f .cell) ∷ [])) ≡ suc q = length-with x (placedBy f) after in
           record {
             codes = padded q (g .codes) ++ (codeOf (f .cell) ∷ []);
-            same = step ∙ unless-none (cellFault x (placedBy f)) m _ h;
+            same = step ∙ unless-none _ m _ h;
             counted = rw (full, place) (omega arith);
             short = rw full (w .inside);
             lines = rw full (omega (arith, g .lines));

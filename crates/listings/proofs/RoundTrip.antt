@@ -1,24 +1,24 @@
 -- Print and load are inverse: the proofs of the statements of specs/RoundTrip.antt.
 use Prim.Native.Nat.{ℕ, _-_, _≤_}
 use mathlib.Core.Path.{_≡_, refl, sym, ap, _∙_}
-use mathlib.Core.Bool.{Bool, true, not}
-use mathlib.Core.List.{List, [], _∷_, _++_}
-use native.Mathlib.Omega.{arith}
-use lib.ListN.{length, length-append, take, drop}
-use lib.Dec.{eqb, leb}
-use lib.Seq.{take-append-le, drop-append-le}
-use borrow.Author.Tests.{le-ltb, le-leb, not-false}
-use Rattle.common.specs.Lists.{zeros, padded, all-of}
-use Rattle.common.specs.Outcome.{done, lowest, unless}
-use Rattle.common.proofs.Lists.{all-of-zeros}
+use mathlib.Core.Bool.{true, not}
+use mathlib.Core.List.{List, _++_}
+use lib.ListN.{length, take}
+use lib.Seq.{take-append-le}
+use borrow.Author.Tests.{not-false}
+use Rattle.common.specs.Lists.{zeros, padded}
+use Rattle.common.specs.Outcome.{done}
 use Rattle.common.proofs.Outcome.{unless-done, not-met}
 use Rattle.cells.specs.Record.{size, sound}
 use Rattle.cells.specs.declared.Crossbar.{Crossbar}
+use Rattle.cells.proofs.Sizes.{sound-facts}
 use Rattle.listings.specs.Listing.{listing, print}
 use Rattle.listings.specs.Loading.{recordOf, cellsOf}
 use Rattle.listings.specs.RoundTrip.{PrintThenLoad, PrintThenLoadDone, PrintThenLoadPadded, LoadThenPrint, LoadThenPrintDone, LoadThenPrintPadded}
-use Rattle.listings.proofs.Printed.{taken-padded, sound-facts, listing-read, load-listing}
+use Rattle.listings.proofs.Answers.{print-fits}
+use Rattle.listings.proofs.Printed.{taken-padded, listing-read, load-listing}
 use Rattle.listings.proofs.Loaded.{load-done, loaded-text}
+use Rattle.cells.proofs.Slices.{sound-zeros}
 
 -- what print gives is the listing of a sound crossbar
 pub print-done :
@@ -55,42 +55,20 @@ load-printed-padded x cells room s wide h =
       taken-padded (size x) (length cells) cells refl (f .enough) (f .past),
     )
 
--- a sound crossbar is printed into any buffer that holds its text
-pub print-sound :
-    (x : Crossbar) (cells : List ℕ) (room : ℕ)
-    → sound x cells ≡ true
-    → length (listing x cells) ≤ room
-    → print x cells room ≡ done (listing x cells)
-unfolding print lowest unless
-print-sound x cells room h fits = rw (h, le-ltb room (length (listing x cells)) fits)
-
 -- load, then print
 pub print-load : LoadThenPrintDone
 print-load s room room′ w h fits =
     let t = loaded-text s room w h in
-    rw (t .1) at (print-sound (w .head) (w .codes) room′ (t .0) (rw (t .1) fits))
+    rw (t .1) at (print-fits (w .head) (w .codes) room′ (t .0) (rw (t .1) fits))
 
 pub print-loaded : LoadThenPrint
 print-loaded s room room′ w s′ h g = sym (print-done (w .head) (w .codes) room′ s′ g .1) ∙ loaded-text s room w h .1
 
--- what holds of 0 holds of a list with zeros after it just where it holds of the list
-all-of-more : (f : ℕ → Bool) (s : List ℕ) (n : ℕ) → f 0 ≡ true → all-of f (s ++ zeros n) ≡ all-of f s
-unfolding all-of
-all-of-more f [] n h = all-of-zeros f n h
-all-of-more f (a ∷ s) n h = rw (all-of-more f s n h)
-
--- ground 12 and print read the first R·C codes, and zeros past them change nothing
+-- print reads the first R·C codes, and zeros past them change nothing
 module _ (x : Crossbar) (cells : List ℕ) (n : ℕ) (h : size x ≤ length cells) where
-  pub sound-zeros : sound x (cells ++ zeros n) ≡ sound x cells
-  unfolding sound
-  sound-zeros =
-      let more : leb (size x) (length (cells ++ zeros n)) ≡ true = le-leb (size x) (length (cells ++ zeros n)) (rw length-append (omega arith)) in
-      let most : leb (size x) (length cells) ≡ true = le-leb (size x) (length cells) h in
-      rw (more, most, take-append-le (size x) cells (zeros n) h, drop-append-le (size x) cells (zeros n) h, all-of-more (λ b. eqb b 0) (drop (size x) cells) n refl)
-
   pub print-zeros : (room : ℕ) → print x (cells ++ zeros n) room ≡ print x cells room
   unfolding print listing
-  print-zeros room = rw (sound-zeros, take-append-le (size x) cells (zeros n) h)
+  print-zeros room = rw (sound-zeros x cells n h, take-append-le (size x) cells (zeros n) h)
 
 pub print-load-padded : LoadThenPrintPadded
 unfolding padded

@@ -1,23 +1,24 @@
 -- The reader's steps by the form of a line: what the definition does with the line due, told from the form that the reader holds.
-use Prim.Native.Nat.{ℕ, zero, suc, _+_, _*_, _≤_, _<_}
+use Prim.Native.Nat.{ℕ, zero, suc, _+_, _≤_, _<_}
 use mathlib.Core.Path.{_≡_, refl, sym, ap, _∙_}
 use mathlib.Core.Logic.{⊎-elim}
-use mathlib.Core.Bool.{Bool, true, false, not}
-use mathlib.Core.Option.{Option, some, none, Option·map}
+use mathlib.Core.Bool.{true, false}
+use mathlib.Core.Option.{Option, some, none}
 use mathlib.Core.List.{List, [], _∷_}
 use native.Mathlib.Omega.{arith}
-use native.Mathlib.Nat.{mul-le-mul-right, mul-le-mul-left}
-use lib.ListN.{length, drop, length-drop, drop-of-length-le}
-use lib.Dec.{eqb, ltb, leb}
-use borrow.Author.Tests.{lt-ltb, le-ltb, ltb-true, leb-false, le-leb, eq-eqb, ne-eqb}
+use lib.ListN.{length, drop}
+use lib.Dec.{ltb, leb}
+use borrow.Author.Tests.{le-ltb, ltb-true, leb-false, le-leb}
 use Rattle.common.specs.declared.Refusal.{Refusal}
-use Rattle.common.specs.Limits.{maxRows, maxColumns, maxSwitches}
+use Rattle.common.specs.Limits.{maxSwitches, maxOutputs}
+use Rattle.common.specs.Lists.{padded}
 use Rattle.common.specs.Outcome.{Outcome, done, refused, _then_, _when_, lowest, unless}
-use Rattle.common.proofs.Lists.{by-test, below-or-not}
-use Rattle.figures.specs.Line.{Lines, left, _⏎_, onto, linesOf, follows, lineEnd}
-use Rattle.figures.proofs.Ends.{not-before}
+use Rattle.common.proofs.Lists.{by-test}
+use Rattle.figures.specs.Line.{Lines, left, _⏎_, linesOf, follows, lineEnd}
+use Rattle.figures.proofs.Ends.{not-before, follows-yes, follows-no}
 use Rattle.cells.specs.declared.Cell.{Cell}
 use Rattle.cells.specs.declared.Cell.the-variants.{Off, On, Yes, No}
+use Rattle.cells.proofs.Sizes.{SizesInRange, in-range}
 use Rattle.forms.specs.declared.SizeForm.{SizeForm}
 use Rattle.forms.specs.declared.CellForm.{CellForm}
 use Rattle.forms.specs.declared.LineRead.{LineRead}
@@ -25,20 +26,14 @@ use Rattle.forms.specs.declared.Form.the-variants as form
 use Rattle.forms.specs.Form.{Placed, placed, switchOf, notDue, endFrom}
 use Rattle.forms.specs.Forms.{endForm}
 use Rattle.forms.specs.Read.{cappedCell, placedIn, cellReadOf, cellRead, lineRead, refusalIn}
-use Rattle.forms.specs.Due.{due}
+use Rattle.forms.specs.Due.{Taken, due}
 use Rattle.forms.proofs.Sorts.{capped, asEnd, asCell}
 use Rattle.forms.proofs.LineReads.{ended, after-end, end-kind, read-due, read-refused}
-use Rattle.listings.specs.Loading.{Listed, switchBelow, cellFault, withCell, outRowFault, loadEnd, loadOuts, loadCells}
-use Rattle.listings.specs.Loader.{sizesIn, placedBy}
-use Rattle.listings.proofs.Printed.{Sizes, in-range}
+use Rattle.listings.specs.Loading.{Listed, switchBelow, cellFault, withCell, loadEnd, loadOuts, loadCells}
+use Rattle.listings.specs.Loader.{sizesIn, placedBy, outputsOf}
 use Rattle.listings.proofs.Loaded.{cell-facts}
 
--- a number stops, and what follows matters only without one
-pub unless-some : {A : Type 0} (k n : ℕ) (o : Outcome A) → (k ≡ 0 → ⊥) → unless k n o ≡ refused k n
-unfolding unless
-unless-some zero n o h = absurd (h refl)
-unless-some (suc k) n o h = refl
-
+-- what follows matters only without a number
 unless-same : {A : Type 0} (k n : ℕ) (o p : Outcome A) → (k ≡ 0 → o ≡ p) → unless k n o ≡ unless k n p
 unfolding unless
 unless-same zero n o p h = h refl
@@ -153,83 +148,26 @@ module _ (x : Listed) (s : List ℕ) (at n : ℕ) (r : LineRead) (e : r ≡ cell
 
 -- the sizes of a first line in range, as plain facts
 abbrev pub Ranged : SizeForm → Type 0
-Ranged s = Sizes (s .rows) (s .columns) (s .switches) (s .outputs)
+Ranged s = SizesInRange (s .rows) (s .columns) (s .switches) (s .outputs)
 
 pub ranged : (s : SizeForm) → sizesIn s ≡ true → Ranged s
 ranged s h = in-range (s .rows) (s .columns) (s .switches) (s .outputs) h
 
-pub product-most : (a b m n : ℕ) → a ≤ m → b ≤ n → a * b ≤ m * n
-product-most a b m n h k = omega (arith, mul-le-mul-right b h, mul-le-mul-left m k)
+-- the answer of the last line asks of a listing only its output rows
+module _ (x y : Listed) (n : ℕ) (ls : Lines) (e : padded maxOutputs (x .outs) ≡ padded maxOutputs (y .outs)) where
+  unless-outs : (k : ℕ) → outputsOf (unless k (n + 1) (done x)) ≡ outputsOf (unless k (n + 1) (done y))
+  unfolding outputsOf unless
+  unless-outs zero = rw e
+  unless-outs (suc k) = refl
 
-pub cells-most : (s : SizeForm) → Ranged s → s .rows * s .columns ≤ maxRows * maxColumns
-cells-most s z = product-most (s .rows) (s .columns) maxRows maxColumns (z .rows-most) (z .columns-most)
+  outs-by : (o : Outcome Taken) (f : Taken → ℕ) → outputsOf (o then λ t. unless (f t) (n + 1) (done x)) ≡ outputsOf (o then λ t. unless (f t) (n + 1) (done y))
+  unfolding _then_
+  outs-by (done t) f = unless-outs (f t)
+  outs-by (refused k l) f = refl
 
--- ground 12 on a cell line, test by test
-pub row-out : (x : Listed) (p : Placed) → x .rows ≤ p .row → cellFault x p ≡ 12
-unfolding cellFault lowest
-row-out x p h = rw (le-ltb (p .row) (x .rows) h)
-
-pub column-out : (x : Listed) (p : Placed) → p .row < x .rows → x .columns ≤ p .column → cellFault x p ≡ 12
-unfolding cellFault lowest
-column-out x p h k = rw (lt-ltb (p .row) (x .rows) h, le-ltb (p .column) (x .columns) k)
-
-pub cell-early :
-    (x : Listed) (p : Placed)
-    → p .row < x .rows
-    → p .column < x .columns
-    → p .row * x .columns + p .column < length (x .codes)
-    → cellFault x p ≡ 12
-unfolding cellFault lowest
-cell-early x p h k e =
-    rw (
-      lt-ltb (p .row) (x .rows) h,
-      lt-ltb (p .column) (x .columns) k,
-      lt-ltb (p .row * x .columns + p .column) (length (x .codes)) e,
-    )
-
-pub cell-named :
-    (x : Listed) (p : Placed) (below : Bool)
-    → p .row < x .rows
-    → p .column < x .columns
-    → length (x .codes) ≤ p .row * x .columns + p .column
-    → switchBelow (x .switches) (p .cell) ≡ below
-    → cellFault x p ≡ lowest ((12 when not below) ∷ [])
-unfolding cellFault
-cell-named x p below h k e b =
-    rw (
-      lt-ltb (p .row) (x .rows) h,
-      lt-ltb (p .column) (x .columns) k,
-      le-ltb (p .row * x .columns + p .column) (length (x .codes)) e,
-      b,
-    )
-
--- grounds 3 and 12 on an output line, test by test
-pub out-of-turn : (x : Listed) (j r : ℕ) → (j ≡ length (x .outs) → ⊥) → outRowFault x j r ≡ 3
-unfolding outRowFault lowest
-out-of-turn x j r h = rw (ne-eqb j (length (x .outs)) h)
-
-pub stand-out : (x : Listed) (j r : ℕ) → j ≡ length (x .outs) → x .rows ≤ r → outRowFault x j r ≡ 12
-unfolding outRowFault lowest
-stand-out x j r e h = rw (eq-eqb j (length (x .outs)) e, le-ltb r (x .rows) h)
-
-pub stand-in : (x : Listed) (j r : ℕ) → j ≡ length (x .outs) → r < x .rows → outRowFault x j r ≡ 0
-unfolding outRowFault lowest
-stand-in x j r e h = rw (eq-eqb j (length (x .outs)) e, lt-ltb r (x .rows) h)
-
-follows-onto : (b : ℕ) (ls : Lines) → follows (onto b ls) ≡ true
-unfolding onto follows
-follows-onto b (left s) = refl
-follows-onto b (l ⏎ ls) = refl
-
-follows-byte : (b : ℕ) (s : List ℕ) → follows (linesOf (b ∷ s)) ≡ true
-unfolding linesOf follows
-follows-byte b s =
-    ⊎-elim (λ (e : eqb b 10 ≡ true). rw (e, linesOf)) (λ (e : eqb b 10 ≡ false). rw (e, linesOf) (follows-onto b (linesOf s)))
-    (by-test (eqb b 10))
-
-follows-some : (s : List ℕ) → 0 < length s → follows (linesOf s) ≡ true
-follows-some [] h = absurd (omega arith)
-follows-some (b ∷ s) h = follows-byte b s
+  pub end-outs : outputsOf (loadEnd x n ls) ≡ outputsOf (loadEnd y n ls)
+  unfolding loadEnd
+  end-outs = outs-by (due endForm n ls) (λ t. lowest ((10 when follows (t .later)) ∷ []))
 
 -- the last line, by its form
 module _ (x : Listed) (s : List ℕ) (at n : ℕ) (r : LineRead) (e : r ≡ lineRead endForm endFrom s at n) where
@@ -244,10 +182,8 @@ module _ (x : Listed) (s : List ℕ) (at n : ℕ) (r : LineRead) (e : r ≡ line
 
     pub end-more : r .next < length s → loadEnd x n (linesOf (drop at s)) ≡ refused 10 (n + 1)
     unfolding lowest unless
-    end-more more =
-        let some-left : 0 < length (drop (r .next) s) = rw length-drop (omega arith) in
-        end-step ∙ rw (follows-some (drop (r .next) s) some-left)
+    end-more more = end-step ∙ rw (follows-yes s (r .next) more)
 
     pub end-last : length s ≤ r .next → loadEnd x n (linesOf (drop at s)) ≡ done x
-    unfolding lowest unless linesOf follows
-    end-last last = end-step ∙ rw (drop-of-length-le s last)
+    unfolding lowest unless
+    end-last last = end-step ∙ rw (follows-no s (r .next) last)

@@ -11,7 +11,7 @@ use Rattle.cells.specs.declared.Crossbar.{Crossbar}
 use Rattle.cells.specs.Code.{cellOf}
 use Rattle.cells.specs.Record.{size, sound}
 use Rattle.forms.specs.Template.{line}
-use Rattle.forms.specs.Forms.{crossbarForm, onForm, yesForm, noForm, outForm, endForm}
+use Rattle.forms.specs.Forms.{crossbarForm, onForm, yesForm, noForm, endForm, outLines}
 
 -- the line of a cell at row r and column c, none where it is off
 unfoldable pub cellLine : ℕ → ℕ → Cell → List ℕ
@@ -24,11 +24,6 @@ cellLine r c (No x) = line noForm (r ∷ c ∷ x ∷ [])
 unfoldable pub cellLines : ℕ → ℕ → List ℕ → List ℕ
 cellLines n p [] = []
 cellLines n p (k ∷ ks) = cellLine (p / n) (p % n) (cellOf k) ++ cellLines n (suc p) ks
-
--- "`(out J r)` for each output", from output j on
-unfoldable pub outLines : ℕ → List ℕ → List ℕ
-outLines j [] = []
-outLines j (r ∷ rs) = line outForm (j ∷ r ∷ []) ++ outLines (suc j) rs
 
 -- "`(crossbar R C V K)`, then each cell not off .., then `(out J r)` for each output, then `(end)`"
 unfoldable pub listing : Crossbar → List ℕ → List ℕ

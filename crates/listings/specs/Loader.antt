@@ -28,6 +28,10 @@ abbrev pub listed : SizeForm → List ℕ → List ℕ → Listed
 listed s codes outs =
     record { rows = s .rows; columns = s .columns; switches = s .switches; outputs = s .outputs; codes = codes; outs = outs }
 
+-- a listing of which only the output rows are told
+abbrev pub rowsOnly : List ℕ → Listed
+rowsOnly outs = record { rows = 0; columns = 0; switches = 0; outputs = 0; codes = []; outs = outs }
+
 -- whether each figure of the first line is in its range: ground 2 is not met
 abbrev pub sizesIn : SizeForm → Bool
 sizesIn s = inRange (s .rows) (s .columns) (s .switches) (s .outputs)

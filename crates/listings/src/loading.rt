@@ -10,15 +10,16 @@ use forms::OutForm;
 use forms::SizeForm;
 ghost use mathlib.Core.Path.{_≡_};
 ghost use mathlib.Core.Bool.{true};
-ghost use mathlib.Core.List.{List, []};
-ghost use Prim.Native.Nat.{ℕ, _+_, _*_, _≤_, _<_};
-ghost use lib.ListN.{length, drop, set};
+ghost use mathlib.Core.List.{[]};
+ghost use Prim.Native.Nat.{_+_, _*_, _≤_, _<_};
+ghost use lib.ListN.{length, take, drop, set};
+ghost use lib.Dec.{eqb};
 ghost use Rattle.common.specs.Limits.{maxRows, maxColumns, maxOutputs, maxInput};
-ghost use Rattle.common.specs.Lists.{zeros, padded};
+ghost use Rattle.common.specs.Lists.{zeros, all-of};
 ghost use Rattle.common.specs.Outcome.{refused, _then_, Answered};
 ghost use Rattle.figures.specs.Line.{linesOf};
-ghost use Rattle.listings.specs.Loading.{Listed, switchBelow, cellFault, outRowFault, loadEnd, loadOuts, loadCells, fitted, loadAt, load};
-ghost use Rattle.listings.specs.Loader.{loaded, listed, sizesIn, placedBy, outputsOf, kept, CellsReached};
+ghost use Rattle.listings.specs.Loading.{switchBelow, cellFault, outRowFault, loadEnd, loadOuts, loadCells, fitted, loadAt, load};
+ghost use Rattle.listings.specs.Loader.{loaded, listed, rowsOnly, sizesIn, placedBy, outputsOf, CellsReached};
 
 // Ground 12: a cell or an output row is not where it may be, or names a switch that is not there.
 const MISPLACED: u32 = 12;
@@ -62,10 +63,11 @@ fn place_of(s: SizeForm, row: u32, column: u32) -> usize
     (row * s.columns + column) as usize
 }
 
-// Ground 12, on a cell line, where the cells before it take up the first `count` places.
+// Ground 12, on a cell line, where the cells before it take up the first `count` places. It asks nothing of their codes, so zeros stand
+// for them.
 fn cell_fault(s: SizeForm, count: usize, f: CellForm) -> u32
     requires { ⌜ sizesIn s ≡ true ⌝ }
-    ensures { λ r. ⌜ ((codes : List ℕ) → length codes ≡ count → r ≡ cellFault (listed s codes []) (placedBy f)) ⌝ }
+    ensures { λ r. ⌜ r ≡ cellFault (listed s (zeros count) []) (placedBy f) ⌝ }
 {
     if s.rows <= f.row {
         return MISPLACED;
@@ -84,12 +86,10 @@ fn cell_fault(s: SizeForm, count: usize, f: CellForm) -> u32
     }
 }
 
-// Grounds 3 and 12, on the output line due as number `j`.
+// Grounds 3 and 12, on the output line due as number `j`. They ask nothing of the cells, and of the output rows before it only how many
+// there are.
 fn stand_fault(s: SizeForm, j: usize, f: OutForm) -> u32
-    ensures { λ r.
-        ⌜ ((codes stands : List ℕ)
-        → length stands ≡ j
-        → r ≡ outRowFault (listed s codes stands) (f .number) (f .target)) ⌝ }
+    ensures { λ r. ⌜ r ≡ outRowFault (listed s [] (zeros j)) (f .number) (f .target) ⌝ }
 {
     if f.number as usize != j {
         return 3;
@@ -168,13 +168,10 @@ fn no_outputs(refusal: Refusal) -> Outputs
     }
 }
 
-// `(end)`, and ground 10.
+// `(end)`, and ground 10. The answer holds the output rows, and asks nothing else of the listing.
 fn load_end(text: &[u8], at: usize, line: u32, outs: [u16; MAX_OUTPUTS]) -> Outputs
     requires { ⌜ line ≤ maxInput + 1 + maxRows * maxColumns + maxOutputs ⌝ }
-    ensures { λ r.
-        ⌜ ((x : Listed)
-        → padded maxOutputs (x .outs) ≡ outs
-        → r ≡ outputsOf (loadEnd x line (linesOf (drop at (now (text .entry)))))) ⌝ }
+    ensures { λ r. ⌜ r ≡ outputsOf (loadEnd (rowsOnly outs) line (linesOf (drop at (now (text .entry))))) ⌝ }
 {
     let read = forms::end_line(text, at, line);
     let form = read.form;
@@ -194,12 +191,10 @@ fn load_end(text: &[u8], at: usize, line: u32, outs: [u16; MAX_OUTPUTS]) -> Outp
     }
 }
 
-// The output lines, and the last line.
+// The output lines, and the last line. They are read alike whatever the cells.
 fn load_outs(text: &[u8], at: usize, line: u32, s: SizeForm) -> Outputs
     requires { ⌜ (sizesIn s ≡ true) × (line ≤ maxInput + 1 + maxRows * maxColumns) ⌝ }
-    ensures { λ r.
-        ⌜ ((codes : List ℕ)
-        → r ≡ outputsOf (loadOuts (s .outputs) (listed s codes []) line (linesOf (drop at (now (text .entry)))))) ⌝ }
+    ensures { λ r. ⌜ r ≡ outputsOf (loadOuts (s .outputs) (listed s [] []) line (linesOf (drop at (now (text .entry))))) ⌝ }
 {
     let mut outs = [0u16; MAX_OUTPUTS];
     let mut next = at;
@@ -226,15 +221,12 @@ fn load_outs(text: &[u8], at: usize, line: u32, s: SizeForm) -> Outputs
     load_end(text, next, number, outs)
 }
 
-// The record and the cells, and ground 14. The buffer holds the cells as far as it has room.
+// The record and the cells, and ground 14. The buffer holds the cells as far as it has room, and zeros past them.
 fn finish(s: SizeForm, outs: [u16; MAX_OUTPUTS], cells: &mut [u8]) -> Loaded
-    requires { ⌜ sizesIn s ≡ true ⌝ }
+    requires { ⌜ (sizesIn s ≡ true) × (all-of (λ b. eqb b 0) (drop (s .rows * s .columns) (now cells)) ≡ true) ⌝ }
     ensures { λ r.
-        ⌜ ((codes stands : List ℕ)
-        → now (cells .entry) ≡ kept (length (now (cells .entry))) codes
-        → length codes ≤ s .rows * s .columns
-        → padded maxOutputs stands ≡ outs
-        → Answered (fitted (length (now (cells .entry))) (listed s codes stands)) loaded (λ w. w .codes) (length (now (cells .entry))) r (now (cells .exit))) ⌝ }
+        ⌜ Answered (fitted (length (now (cells .entry))) (listed s (take (s .rows * s .columns) (now (cells .entry))) outs)) loaded (λ w. w .codes)
+        (length (now (cells .entry))) r (now (cells .exit)) ⌝ }
 {
     let size = (s.rows * s.columns) as usize;
     if cells.len() < size {

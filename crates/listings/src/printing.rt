@@ -12,16 +12,16 @@ use forms::write::write_size;
 use forms::write::write_yes;
 ghost use mathlib.Core.Path.{_≡_};
 ghost use mathlib.Core.Bool.{true};
-ghost use Prim.Native.Nat.{ℕ, _+_, _*_, _≤_};
+ghost use Prim.Native.Nat.{_+_, _*_, _/_, _≤_};
 ghost use lib.ListN.{length, take, drop};
 ghost use lib.Dec.{eqb};
 ghost use Rattle.common.specs.Limits.{maxOutputs};
-ghost use Rattle.common.specs.Lists.{zeros, all-of};
-ghost use Rattle.common.specs.Outcome.{Answered};
+ghost use Rattle.common.specs.Lists.{all-of};
+ghost use Rattle.common.specs.Outcome.{refused, Answered};
 ghost use Rattle.cells.specs.Record.{sound};
 ghost use Rattle.forms.specs.Written.{Written};
 ghost use Rattle.listings.specs.Listing.{cellLine, listing, print};
-ghost use Rattle.listings.specs.Printing.{printed, textAnswer, refusedAnswer, cellText, outText, RowIn, RowsIn};
+ghost use Rattle.listings.specs.Printing.{printed, cellText, outText, offFirst, RowIn, RowsIn};
 
 // What print answers: the refusal, and the text's length.
 pub struct Printed {
@@ -57,10 +57,11 @@ fn eight_off(cells: &[u8], from: usize) -> bool
     ok
 }
 
-// The column to go on with from column c on, in the row that begins at a place: cells that are off are passed over, eight at once.
+// The column to go on with from column c on, in the row that begins at a place: cells that are off are passed over, eight at once, as many
+// eights as there are before the first cell that is not off.
 fn past_off(cells: &[u8], start: usize, c: usize, columns: usize) -> usize
     requires { ⌜ (c ≤ columns) × (start + columns ≤ length (now cells)) ⌝ }
-    ensures { λ d. ⌜ (c ≤ d) × (d ≤ columns) × ((n : ℕ) → cellText (now (cells .entry)) n (start + c) (start + columns) ≡ cellText (now (cells .entry)) n (start + d) (start + columns)) ⌝ }
+    ensures { λ d. ⌜ d ≡ c + offFirst (drop (start + c) (take (start + columns) (now (cells .entry)))) / 8 * 8 ⌝ }
 {
     let mut d = c;
     while d + 8 <= columns {
@@ -143,7 +144,7 @@ fn write_listing(out: &mut [u8], x: Crossbar, cells: &[u8]) -> usize
 
 // The answer for a text: its length.
 fn answer(length: usize) -> Printed
-    ensures { λ r. ⌜ r ≡ textAnswer length ⌝ }
+    ensures { λ r. ⌜ r ≡ record { refusal = record { number = 0; line = 0 }; length = length } ⌝ }
 {
     Printed {
         refusal: Refusal { number: 0, line: 0 },
@@ -153,7 +154,7 @@ fn answer(length: usize) -> Printed
 
 // The answer for a refusal: its number, line 0, 0 as the length, and zeros in the whole buffer.
 fn refuse(buffer: &mut [u8], number: u32) -> Printed
-    ensures { λ r. ⌜ (r ≡ refusedAnswer number) × (now (buffer .exit) ≡ zeros (length (now (buffer .entry)))) ⌝ }
+    ensures { λ r. ⌜ Answered (refused number 0) printed (λ s. s) (length (now (buffer .entry))) r (now (buffer .exit)) ⌝ }
 {
     common::clear(buffer);
     Printed {

@@ -1,6 +1,6 @@
 -- Stores into a buffer of zeros, each of what is to stand at its place: in any order, once each place that is not to be 0 has its
 -- store, the buffer is as it is to be.
-use Prim.Native.Nat.{ℕ, zero, suc, _<_}
+use Prim.Native.Nat.{ℕ, _<_}
 use mathlib.Core.Path.{_≡_, refl, sym, _∙_}
 use mathlib.Core.Logic.{_⊎_, inl, inr, ⊎-elim}
 use mathlib.Core.Bool.{Bool, true, false}
@@ -9,7 +9,7 @@ use native.Mathlib.Omega.{arith}
 use lib.ListN.{length, getD, set, length-set, length-replicate}
 use lib.Seq.{getD-set-same, getD-set-other, ext-getD}
 use Rattle.common.specs.Lists.{zeros}
-use Rattle.common.proofs.Lists.{true-or-false, equal-or-not}
+use Rattle.common.proofs.Lists.{true-or-false, equal-or-not, getD-zeros-at}
 use Rattle.placement.specs.Filling.{choose, storeIf}
 
 -- what stands at a place is what is to stand there
@@ -21,13 +21,8 @@ pub record Partly (target s : List ℕ) : Type 0 where
   pub long : length s ≡ length target
   pub right : (p : ℕ) → (getD s p 0 ≡ 0) ⊎ Filled target s p
 
-pub getD-zeros : (n i : ℕ) → getD (zeros n) i 0 ≡ 0
-getD-zeros zero i = refl
-getD-zeros (suc n) zero = refl
-getD-zeros (suc n) (suc i) = getD-zeros n i
-
 pub partly-zeros : (target : List ℕ) → Partly target (zeros (length target))
-partly-zeros target = record { long = length-replicate (length target) 0; right = λ p. inl (getD-zeros (length target) p) }
+partly-zeros target = record { long = length-replicate (length target) 0; right = λ p. inl (getD-zeros-at (length target) p) }
 
 -- once each place that is not to be 0 is filled
 pub all-filled : (target s : List ℕ) → Partly target s → ((p : ℕ) → p < length target → (getD target p 0 ≡ 0 → ⊥) → Filled target s p) → s ≡ target

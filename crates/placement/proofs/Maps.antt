@@ -3,11 +3,10 @@ use Prim.Native.Nat.{ℕ, _+_, _*_, _-_, _≤_, _<_}
 use mathlib.Core.Path.{_≡_, sym, ap, _∙_}
 use mathlib.Core.List.{List, []}
 use native.Mathlib.Omega.{arith}
-use native.Mathlib.Nat.{mul-le-mul}
 use lib.ListN.{length, getD, take}
 use lib.Seq.{length-take-le, getD-take, take-append-seam}
 use borrow.Author.Tests.{lt-ltb, le-ltb}
-use Rattle.common.specs.Limits.{maxRows, maxColumns, maxNodes, maxIds, maxOutputs}
+use Rattle.common.specs.Limits.{maxRows, maxNodes, maxIds, maxOutputs}
 use Rattle.common.specs.Lists.{zeros, padded}
 use Rattle.common.specs.Outcome.{Outcome, done, refused, _then_, lowest, unless, numberOf, lineOf, refusalOf, valueOf, bufferOf, Answered}
 use Rattle.common.proofs.Lists.{length-padded, length-tab}
@@ -90,18 +89,13 @@ module _ (t : List ℕ) (job : Job) (held : JobHeld t job) where
           ap (allCells t (w .rows) (w .columns) (w .width) (job .nodes)) zero
           ∙ all-right t (job .nodes) (take (job .outputs) (job .outs)) w (held .terminals) all-numbers (held .facts) room in-room
 
-  -- R·C, from a head that is the record
+  -- R·C, of a head that is the record
   module _ (head : Crossbar) (is : head ≡ crossbar d) where
-    pub size-few : head .rows * head .columns ≤ maxRows * maxColumns
-    unfolding crossbar
-    size-few = rw is (mul-le-mul (held .sizes .rows-most) (held .sizes .columns-most))
-
-    size-is : head .rows * head .columns ≡ size (crossbar d)
-    unfolding size
-    size-is = rw is
+    size-is : size head ≡ size (crossbar d)
+    size-is = ap size is
 
     -- what a buffer of this length lacks of the cells
-    module _ (room lacks : ℕ) (is-lacks : lacks ≡ head .rows * head .columns - room) where
+    module _ (room lacks : ℕ) (is-lacks : lacks ≡ size head - room) where
       pub size-fits : lacks ≤ 0 → size (crossbar d) ≤ room
       size-fits none = omega (arith, size-is)
 

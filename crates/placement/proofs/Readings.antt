@@ -1,5 +1,5 @@
 -- What an output of a placed crossbar reads: a chain joins row 0 to the row of an id exactly when the walk from that id ends at
--- terminal 1. Two ids that outputs may name have two rows.
+-- terminal 1.
 use Prim.Native.Nat.{ℕ, zero, suc, _≤_, _<_}
 use mathlib.Core.Path.{_≡_, refl, sym, ap, _∙_}
 use mathlib.Core.Logic.{_⊎_, inl, inr, ⊎-elim, _↔_}
@@ -22,24 +22,8 @@ use Rattle.diagram.proofs.Walk.{step-cases, step-below, walk-zero, walk-one, wa
 use Rattle.conduction.proofs.Chains.{chain-within}
 use Rattle.conduction.specs.Chain.{Wire, row, column, Chain, here, across, back, Within}
 use Rattle.placement.specs.Placement.{edge, meeting, cells, outRow}
-use Rattle.placement.proofs.Owners.{owner-below, number-injective}
-use Rattle.placement.proofs.Places.{
-  joined-at,
-  row-below,
-  row-owner,
-  column-below,
-  within-rows,
-  joined-ids,
-  meeting-same,
-  meeting-down,
-  meeting-up,
-  step-edge,
-  Joined,
-  own,
-  down,
-  up,
-  joined,
-}
+use Rattle.placement.proofs.Owners.{owner-below}
+use Rattle.placement.proofs.Places.{joined-at, row-owner, column-below, within-rows, joined-ids, meeting-same, meeting-down, meeting-up, step-edge, Joined, own, down, up, joined}
 
 -- the chains of a diagram's crossbar under a setting
 abbrev pub Reach : Diagram → List ℕ → Wire → Type 0
@@ -123,10 +107,6 @@ module _ (d : Diagram) (s : List ℕ) (facts : Facts d) where
   unfolding ownerOf
   chain-walk r chain = owner-walk chain
 
-  pub chain-walk-column : (c : ℕ) → Reach d s (column c) → walkEnd d s (getD (columnOwners d) c 0) ≡ 1
-  unfolding ownerOf
-  chain-walk-column c chain = owner-walk chain
-
 -- a label: `h`, `v` or `b`
 data Label : ℕ → Type 0 where
   is-h : Label 1
@@ -184,7 +164,7 @@ child-row d facts i k some within some-child child-within e f =
     unlike (id-label d facts i some within) (id-label d facts k some-child child-within) e f
 
 -- that chains join row 0 to the wires that an id has
-record Lit (d : Diagram) (s : List ℕ) (i : ℕ) : Type 0 where
+record LitWire (d : Diagram) (s : List ℕ) (i : ℕ) : Type 0 where
   at-row : hasRow d i ≡ true → Reach d s (row (rowOf d i))
   at-column : hasColumn d i ≡ true → Reach d s (column (columnOf d i))
 
@@ -219,15 +199,15 @@ module _ (d : Diagram) (s : List ℕ) (facts : Facts d) (setting : isSetting (d 
   unfolding conducts
   own-cell i some = rw (meeting-same d i some)
 
-  from-row : (i : ℕ) → 0 < i → i < idCount d → hasRow d i ≡ true → Reach d s (row (rowOf d i)) → Lit d s i
+  from-row : (i : ℕ) → 0 < i → i < idCount d → hasRow d i ≡ true → Reach d s (row (rowOf d i)) → LitWire d s i
   from-row i some within has chain =
       record { at-row = λ _. chain; at-column = λ col. to-column i i has within col within (own-cell i some) chain }
 
-  from-column : (i : ℕ) → 0 < i → i < idCount d → hasColumn d i ≡ true → Reach d s (column (columnOf d i)) → Lit d s i
+  from-column : (i : ℕ) → 0 < i → i < idCount d → hasColumn d i ≡ true → Reach d s (column (columnOf d i)) → LitWire d s i
   from-column i some within has chain =
       record { at-row = λ r. to-row i i r within has within (own-cell i some) chain; at-column = λ _. chain }
 
-  lit-one : Lit d s 1
+  lit-one : LitWire d s 1
   lit-one = from-row 1 (omega arith) (one-within d) (one-row d facts) (rw (row-zero d) here)
 
   -- from a child of a node to the node, where the edge between them conducts
@@ -238,8 +218,8 @@ module _ (d : Diagram) (s : List ℕ) (facts : Facts d) (setting : isSetting (d 
       → k < i
       → alike (labelAt d i) (labelAt d k) ≡ false
       → conducts s (edge d i k) ≡ true
-      → Lit d s k
-      → Lit d s i
+      → LitWire d s k
+      → LitWire d s i
   lit-parent i k within some below e lit child =
       ⊎-elim
       (λ (t : hasRow d i && hasColumn d k ≡ true).
@@ -254,7 +234,7 @@ module _ (d : Diagram) (s : List ℕ) (facts : Facts d) (setting : isSetting (d 
       (by-test (hasRow d i && hasColumn d k))
 
   -- where the walk from an id ends at 1, chains join row 0 to its wires: by induction on a bound of the id
-  lit-below : (n i : ℕ) → i < n → i < idCount d → walkEnd d s i ≡ 1 → Lit d s i
+  lit-below : (n i : ℕ) → i < n → i < idCount d → walkEnd d s i ≡ 1 → LitWire d s i
   lit-below zero i below within ends = absurd (omega arith)
   lit-below (suc n) zero below within ends = absurd (omega (arith, walk-some d s 0 ends))
   lit-below (suc n) (suc zero) below within ends = lit-one
@@ -315,28 +295,6 @@ pub outRow-below : (d : Diagram) (i : ℕ) → i < idCount d → OnRow d i → o
 unfolding rowCount bit
 outRow-below d i within (inl has) = rw (out-row-of d i has) (within-rows d i has within)
 outRow-below d i within (inr (e, named)) = rw (e, out-row-zero d, named) (omega arith)
-
--- the last row without cells is no id's
-apart : (d : Diagram) (i k : ℕ) → hasRow d i ≡ true → i < idCount d → k ≡ 0 → outRow d i ≡ outRow d k → ⊥
-apart d i k has within e same =
-    let at : rowOf d i ≡ length (rowOwners d) = sym (out-row-of d i has) ∙ same ∙ ap (outRow d) e ∙ out-row-zero d in
-    omega (arith, row-below d i has within)
-
--- and two ids that outputs may name have two rows
-pub outRow-injective :
-    (d : Diagram) (i k : ℕ)
-    → i < idCount d
-    → k < idCount d
-    → OnRow d i
-    → OnRow d k
-    → outRow d i ≡ outRow d k
-    → i ≡ k
-unfolding rowOf
-outRow-injective d i k within below (inl p) (inl q) e =
-    number-injective (hasRow d) i k p q (sym (out-row-of d i p) ∙ e ∙ out-row-of d k q)
-outRow-injective d i k within below (inl p) (inr (q, named)) e = absurd (apart d i k p within q e)
-outRow-injective d i k within below (inr (p, named)) (inl q) e = absurd (apart d k i q below p (sym e))
-outRow-injective d i k within below (inr (p, named)) (inr (q, more)) e = p ∙ sym q
 
 -- the outputs of an accepted diagram name such ids
 pub out-on-row : (d : Diagram) → Facts d → (j : ℕ) → j < length (d .outs) → OnRow d (getD (d .outs) j 0)

@@ -23,7 +23,7 @@ use Rattle.placement.proofs.Readings as readings
 use Rattle.placement.proofs.Count.{by-label, label-zero, label-one, labelled, wires-count}
 
 -- the two wires of an edge from i to k: the row of one of them and the column of the other
-record Ends (d : Diagram) (i k : ℕ) : Type 0 where
+record EdgeEnds (d : Diagram) (i k : ℕ) : Type 0 where
   p : ℕ
   q : ℕ
   row : hasRow d p ≡ true
@@ -335,7 +335,7 @@ module _ (d : Diagram) (facts : Facts d) where
       otherwise
 
   -- the wires of an edge, and what its cell holds
-  ends : (i : ℕ) (side : Bool) → IsEdge d i side → Ends d i (childAt d i side)
+  ends : (i : ℕ) (side : Bool) → IsEdge d i side → EdgeEnds d i (childAt d i side)
   ends i side e =
       let k = childAt d i side in
       let below : childAt d i side < i = child-below i side (e .least) (e .most) in

@@ -4,7 +4,7 @@ use Prim.Native.Nat.{ℕ, _+_, _-_, _*_, _≤_, _<_}
 use mathlib.Core.Path.{_≡_, refl}
 use mathlib.Core.Logic.{⊎-elim}
 use mathlib.Core.Bool.{Bool, true, false}
-use mathlib.Core.List.{[], map}
+use mathlib.Core.List.{map}
 use native.Mathlib.Omega.{arith}
 use lib.ListN.{length, getD, take, drop, length-map}
 use lib.Seq.{take-length, drop-length, take-at, drop-at}
@@ -69,8 +69,8 @@ module _ (d : Diagram) (facts : Facts d) where
       (equal-or-not (codeAt d r c) 0)
 
   -- each output row is a row
-  pub out-below : (j : ℕ) → j < length (d .outs) → outRow d (getD (d .outs) j 0) < rowCount d
-  out-below j below = outRow-below d (getD (d .outs) j 0) (facts .outs-named j below) (out-on-row d facts j below)
+  pub out-row-below : (j : ℕ) → j < length (d .outs) → outRow d (getD (d .outs) j 0) < rowCount d
+  out-row-below j below = outRow-below d (getD (d .outs) j 0) (facts .outs-named j below) (out-on-row d facts j below)
 
   -- "R is 1 to 128": terminal 1 has a row
   pub rows-least : 1 ≤ rowCount d
@@ -97,7 +97,7 @@ module _ (d : Diagram) (facts : Facts d) where
   outs-in : all-of (λ r. ltb r (rowCount d)) (map (outRow d) (d .outs)) ≡ true
   outs-in =
       all-of-map (λ r. ltb r (rowCount d)) (outRow d) (d .outs)
-      (λ j below. lt-ltb (outRow d (getD (d .outs) j 0)) (rowCount d) (out-below j below))
+      (λ j below. lt-ltb (outRow d (getD (d .outs) j 0)) (rowCount d) (out-row-below j below))
 
 -- every mapped crossbar passes ground 12
 pub mapped-sound : (d : Diagram) → Facts d → Sizes d → sound (crossbar d) (cells d) ≡ true

@@ -5,11 +5,11 @@ use mathlib.Core.Logic.{⊎-elim}
 use mathlib.Core.Bool.{Bool, true, false, _&&_}
 use mathlib.Core.List.{List}
 use native.Mathlib.Omega.{arith}
-use native.Mathlib.Nat.{mul-le-mul-right, div-add-mod', div-lt-iff-lt-mul, mod-lt}
+use native.Mathlib.Nat.{div-add-mod', div-lt-iff-lt-mul, mod-lt}
 use lib.ListN.{length, getD}
 use lib.Seq.{getD-append-add}
 use Rattle.common.specs.Lists.{zeros, padded}
-use Rattle.common.proofs.Lists.{by-test, below-or-not, length-grid, length-padded, getD-padded}
+use Rattle.common.proofs.Lists.{by-test, below-or-not, length-grid, length-padded, getD-padded, within-grid, getD-zeros-at}
 use Rattle.cells.specs.Code.{codeOf}
 use Rattle.diagram.specs.Diagram.{Diagram, idCount, switchAt, labelAt}
 use Rattle.diagram.specs.Wires.{hasRow, hasColumn, rowOf, columnOf, rowCount, columnCount}
@@ -19,7 +19,6 @@ use Rattle.placement.specs.Filling.{choose, edgeCode}
 use Rattle.placement.proofs.Places.{within-rows, column-below}
 use Rattle.placement.specs.Sentences.{childAt, literal, edgeRow, edgeColumn, IsEdge, CellStands, own, step}
 use Rattle.placement.proofs.Sentences.{stored, both-on, placed, edge-placed, edge-within}
-use Rattle.placement.proofs.Filled.{getD-zeros}
 
 -- where the cell of a `b` label stands in the buffer, and that of the edge from i to k
 unfoldable pub ownPlace : Diagram → ℕ → ℕ
@@ -28,10 +27,6 @@ ownPlace d i = rowOf d i * columnCount d + columnOf d i
 unfoldable pub edgePlace : Diagram → ℕ → ℕ → ℕ
 edgePlace d i k =
     choose (hasRow d i && hasColumn d k) (rowOf d i * columnCount d + columnOf d k) (rowOf d k * columnCount d + columnOf d i)
-
--- where row and column meet in a grid
-below-grid : (m n r c : ℕ) → r < m → c < n → r * n + c < m * n
-below-grid m n r c h k = omega (arith, mul-le-mul-right n h)
 
 -- each place of a grid is that of a row and a column
 in-grid : (m n p : ℕ) → p < m * n → (p / n < m) × (p % n < n) × (p ≡ p / n * n + p % n)
@@ -43,7 +38,7 @@ past-padded : (n : ℕ) (s : List ℕ) (p : ℕ) → length s ≤ p → getD (pa
 unfolding padded
 past-padded n s p h =
     let e : p ≡ length s + (p - length s) = omega arith in
-    rw e (getD-append-add s (zeros (n - length s)) (p - length s) 0 ∙ getD-zeros (n - length s) (p - length s))
+    rw e (getD-append-add s (zeros (n - length s)) (p - length s) 0 ∙ getD-zeros-at (n - length s) (p - length s))
 
 -- the place of an edge, by its row and its column
 edge-place : (d : Diagram) (i k : ℕ) → edgePlace d i k ≡ edgeRow d i k * columnCount d + edgeColumn d i k
@@ -76,11 +71,11 @@ module _ (d : Diagram) (facts : Facts d) (room : ℕ) (fits : rowCount d * colum
   target-at :
       (r c : ℕ) → r < rowCount d → c < columnCount d → getD (padded room (cells d)) (r * columnCount d + c) 0 ≡ codeAt d r c
   target-at r c h k =
-      let within : r * columnCount d + c < length (cells d) = omega (arith, cells-long, below-grid (rowCount d) (columnCount d) r c h k) in
+      let within : r * columnCount d + c < length (cells d) = omega (arith, cells-long, within-grid (rowCount d) (columnCount d) r c h k) in
       getD-padded room (cells d) (r * columnCount d + c) 0 within ∙ stored d r c h k
 
   place-in : (r c : ℕ) → r < rowCount d → c < columnCount d → r * columnCount d + c < length (padded room (cells d))
-  place-in r c h k = omega (arith, target-long, below-grid (rowCount d) (columnCount d) r c h k)
+  place-in r c h k = omega (arith, target-long, within-grid (rowCount d) (columnCount d) r c h k)
 
   pub label-in :
       (i : ℕ)

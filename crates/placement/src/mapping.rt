@@ -12,11 +12,12 @@ use jobs::Job;
 use jobs::JobRead;
 use jobs::table::read_diagram;
 ghost use mathlib.Core.Path.{_≡_};
-ghost use Prim.Native.Nat.{_-_, _*_};
+ghost use Prim.Native.Nat.{_-_};
 ghost use lib.ListN.{length};
-ghost use Rattle.common.specs.Limits.{maxIds};
 ghost use Rattle.common.specs.Lists.{zeros};
 ghost use Rattle.common.specs.Outcome.{refused, Answered};
+ghost use Rattle.cells.specs.Record.{size};
+ghost use Rattle.diagram.specs.Table.{tableLength};
 ghost use Rattle.jobs.specs.Answer.{jobRead};
 ghost use Rattle.jobs.specs.Job.{accepted};
 ghost use Rattle.jobs.specs.Spread.{flat};
@@ -40,11 +41,12 @@ fn refuse(refusal: Refusal) -> Mapped
     }
 }
 
-// Ground 14: how many bytes a buffer lacks.
-fn lacking(room: usize, size: usize) -> usize
-    ensures { λ r. ⌜ r ≡ size - room ⌝ }
+// Ground 14: how many bytes a buffer lacks of a crossbar's R·C.
+fn lacking(head: Crossbar, room: usize) -> usize
+    ensures { λ r. ⌜ r ≡ size head - room ⌝ }
 {
-    if room < size { size - room } else { 0 }
+    let due = head.rows as usize * head.columns as usize;
+    if room < due { due - room } else { 0 }
 }
 
 // Ground 14, or the cells and the record of an accepted job, into a buffer of zeros.
@@ -66,8 +68,7 @@ fn place(table: &[u16; TABLE], job: Job, cells: &mut [u8]) -> Mapped
         job.outputs as usize,
         &outs,
     );
-    let size = head.rows as usize * head.columns as usize;
-    if 0 < lacking(cells.len(), size) {
+    if 0 < lacking(head, cells.len()) {
         return refuse(Refusal {
             number: 14,
             line: 0,
@@ -82,7 +83,7 @@ fn place(table: &[u16; TABLE], job: Job, cells: &mut [u8]) -> Mapped
 
 // The job that is mapped, and its diagram in the table. Grounds 1 to 11.
 fn read(text: &[u8], table: &mut [u16; TABLE]) -> JobRead
-    ensures { λ r. ⌜ Answered (accepted (now (text .entry))) jobRead flat (4 * maxIds) r (now (table .exit)) ⌝ }
+    ensures { λ r. ⌜ Answered (accepted (now (text .entry))) jobRead flat tableLength r (now (table .exit)) ⌝ }
 {
     read_diagram(text, table)
 }

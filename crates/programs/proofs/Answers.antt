@@ -1,7 +1,6 @@
 -- What the calls hand over to the programs, and what the programs print of it.
 use Prim.Native.Nat.{ℕ, _+_, _-_, _*_, _≤_}
 use mathlib.Core.Path.{_≡_, refl, sym, ap, _∙_}
-use mathlib.Core.Bool.{true}
 use mathlib.Core.List.{List}
 use native.Mathlib.Omega.{arith}
 use lib.ListN.{length, take, drop}
@@ -26,18 +25,17 @@ use Rattle.listings.specs.Loading.{Listed, loadFrom, loadAt, recordOf, cellsOf}
 use Rattle.listings.specs.Loader.{loaded}
 use Rattle.programs.specs.declared.setting.SetLine.{SetLine}
 use Rattle.programs.specs.Programs.{programText, mapProgram, setLine, readings, lightAndRead, lightProgram}
-use Rattle.programs.specs.Setting.{setFound, setOf}
+use Rattle.programs.specs.Setting.{setOf}
 use Rattle.programs.specs.Texts.{Said}
 use Rattle.programs.proofs.Texts.{said-as}
+use Rattle.programs.proofs.SetLine.{setFound}
 use Rattle.programs.proofs.Printing.{
   refusedLine,
-  Maps,
   map-maps,
   map-done,
   map-refused,
   map-prints,
   said-mapped,
-  lit-padded,
   light-refused,
   light-done,
   light-outputs,
@@ -47,6 +45,7 @@ use Rattle.programs.proofs.Printing.{
   load-done,
   light-loaded,
   Set,
+  set-refused,
   set-found,
 }
 
@@ -132,8 +131,16 @@ module _
 
 -- the set line
 module _ (s : List ℕ) (short : length s ≤ maxInput) (l : SetLine) (is : l ≡ setOf (setLine (linesOf s))) where
-  pub set-is : l .ok ≡ true → (vs : List ℕ) × Set s short vs × (l ≡ setFound vs)
-  set-is h = let d = set-found s short (rw is at h) in (d .0, d .1, is ∙ d .1 .is)
+  pub line-refused : (l .refusal .number ≡ 0 → ⊥) → refusedLine (l .refusal .number) (l .refusal .line) ≡ lightProgram s
+  unfolding setOf refusalOf
+  line-refused h = rw is (set-refused s short (λ (e : numberOf (setLine (linesOf s)) ≡ 0). h (rw is e)))
+
+  pub set-is : l .refusal .number ≡ 0 → (vs : List ℕ) × Set s short vs × (l ≡ setFound vs)
+  unfolding setOf refusalOf
+  set-is h =
+      let z : numberOf (setLine (linesOf s)) ≡ 0 = rw is at h in
+      let d = set-found s short z in
+      (d .0, d .1, is ∙ d .1 .is)
 
 -- its figures, in the reader's answer
 pub figures-taken : (vs : List ℕ) (l : SetLine) → l ≡ setFound vs → take (l .count - 0) (drop 0 (l .figures)) ≡ vs

@@ -10,6 +10,7 @@ use Rattle.common.specs.Outcome.{Outcome, done, refused, _then_}
 use Rattle.common.proofs.Outcome.{then-done, unless-done}
 use Rattle.figures.specs.Bytes.{bytes}
 use Rattle.figures.specs.Line.{linesOf}
+use Rattle.figures.proofs.Writing.{length-most}
 use Rattle.cells.specs.declared.Crossbar.{Crossbar}
 use Rattle.cells.specs.Record.{Whole}
 use Rattle.forms.specs.Due.{Taken}
@@ -19,24 +20,24 @@ use Rattle.placement.specs.Map.{mapJob}
 use Rattle.conduction.specs.Light.{Lit, light}
 use Rattle.listings.specs.Listing.{listing}
 use Rattle.listings.specs.Loading.{Listed, loadFrom, recordOf, cellsOf}
-use Rattle.listings.proofs.Lengths.{five-most, end-most, listing-most}
+use Rattle.listings.proofs.Lengths.{end-most, listing-most}
 use Rattle.programs.specs.Programs.{programText, inputFits, mapProgram, setLine, readsLines, readings, lightAndRead, lightProgram}
 use Rattle.programs.specs.Texts.{wholeOrNone}
 use Rattle.programs.proofs.Printing.{map-maps, light-outputs}
-use Rattle.programs.proofs.Texts.{whole-fits}
+use Rattle.programs.proofs.Texts.{room-fits}
 
 -- the bytes of each line
 refused-most : (k n : ℕ) → length (line refusedForm (k ∷ n ∷ [])) ≤ 22
 unfolding line written refusedForm bytes
-refused-most k n = simp length-append (omega (arith, five-most k, five-most n))
+refused-most k n = simp length-append (omega (arith, length-most k, length-most n))
 
 rounds-most : (t : ℕ) → length (line roundsForm (t ∷ [])) ≤ 16
 unfolding line written roundsForm bytes
-rounds-most t = simp length-append (omega (arith, five-most t))
+rounds-most t = simp length-append (omega (arith, length-most t))
 
 reads-most : (j v : ℕ) → length (line readsForm (j ∷ v ∷ [])) ≤ 20
 unfolding line written readsForm bytes
-reads-most j v = simp length-append (omega (arith, five-most j, five-most v))
+reads-most j v = simp length-append (omega (arith, length-most j, length-most v))
 
 reads-lines-most : (wires : List ℕ) (j : ℕ) (rows : List ℕ) → length (readsLines wires j rows) ≤ 20 * length rows
 unfolding readsLines
@@ -107,11 +108,13 @@ light-most s =
         light-read-most (l .0 .vals) _ t (y .2)
 
 -- so each text is handed over whole into a buffer of that many bytes
-pub map-whole : (s : List ℕ) (room : ℕ) → maxText ≤ room → wholeOrNone room (mapProgram s) ≡ mapProgram s
-map-whole s room h = whole-fits room (mapProgram s) (omega (arith, map-most s))
+pub map-whole : (s : List ℕ) (room : ℕ) → maxText ≤ room → wholeOrNone room (mapProgram s) ≡ done (mapProgram s)
+unfolding wholeOrNone
+map-whole s room h = room-fits room (length (mapProgram s)) (mapProgram s) (omega (arith, map-most s))
 
-pub light-whole : (s : List ℕ) (room : ℕ) → maxText ≤ room → wholeOrNone room (lightProgram s) ≡ lightProgram s
-light-whole s room h = whole-fits room (lightProgram s) (omega (arith, light-most s))
+pub light-whole : (s : List ℕ) (room : ℕ) → maxText ≤ room → wholeOrNone room (lightProgram s) ≡ done (lightProgram s)
+unfolding wholeOrNone
+light-whole s room h = room-fits room (length (lightProgram s)) (lightProgram s) (omega (arith, light-most s))
 
 -- a buffer of that many zeros
 pub zeros-hold : maxText ≤ length (zeros maxText)

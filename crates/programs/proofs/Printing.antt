@@ -2,24 +2,23 @@
 use Prim.Native.Nat.{ℕ, zero, suc, _+_, _-_, _*_, _≤_, _<_}
 use mathlib.Core.Path.{_≡_, refl, sym, ap, _∙_}
 use mathlib.Core.Logic.{⊎-elim}
-use mathlib.Core.Bool.{true, false}
+use mathlib.Core.Bool.{true}
 use mathlib.Core.Option.{Option, some, none}
 use mathlib.Core.List.{List, [], _∷_, _++_}
 use native.Mathlib.Omega.{arith}
 use native.Mathlib.Nat.{mul-le-mul}
-use lib.ListN.{length, getD, take, drop, length-append, length-replicate}
+use lib.ListN.{length, take, drop, length-append, length-replicate}
 use borrow.Author.Tests.{lt-ltb, le-ltb}
 use Rattle.common.specs.Limits.{maxRows, maxColumns, maxSwitches, maxOutputs, maxInput}
 use Rattle.common.specs.Lists.{zeros, padded}
-use Rattle.common.specs.Outcome.{Outcome, done, refused, _then_, lowest, unless, numberOf, lineOf, refusalOf, valueOf, bufferOf, Answered}
-use Rattle.common.proofs.Lists.{below-or-not}
+use Rattle.common.specs.Outcome.{Outcome, done, refused, _then_, lowest, unless, numberOf, lineOf, Answered}
+use Rattle.common.proofs.Lists.{below-or-not, getD-before-zeros}
 use Rattle.common.proofs.Outcome.{then-done, unless-done}
-use Rattle.figures.specs.Line.{Lines, left, _⏎_, linesOf, afterFirst, lineEnd}
+use Rattle.figures.specs.Line.{Lines, left, _⏎_, linesOf, lineEnd}
 use Rattle.figures.proofs.Ends.{line-left}
 use Rattle.cells.specs.declared.Crossbar.{Crossbar}
 use Rattle.cells.specs.Record.{Whole, size, sound}
-use Rattle.cells.specs.Code.{cellOf}
-use Rattle.cells.specs.Conducts.{conducts, joins}
+use Rattle.cells.proofs.Sizes.{in-range}
 use Rattle.forms.specs.Form.{Placed, placed}
 use Rattle.forms.specs.Template.{line}
 use Rattle.forms.specs.Due.{Taken, due}
@@ -27,25 +26,25 @@ use Rattle.forms.specs.Forms.{refusedForm, outForm, endForm, crossbarForm}
 use Rattle.forms.proofs.LineReads.{lines-after}
 use Rattle.jobs.specs.Job.{accepted}
 use Rattle.jobs.proofs.Accepted.{accepted-job}
-use Rattle.jobs.proofs.Refusals.{Named, named-done, named-refused, named-then, named-unless, named-due, by-number, accepted-done}
+use Rattle.jobs.proofs.Refusals.{Named, named-done, named-refused, named-then, named-unless, named-due, named-accepted, by-number}
 use Rattle.placement.specs.Map.{mapJob}
 use Rattle.placement.specs.Placement.{cells, crossbar}
 use Rattle.placement.proofs.Sound.{mapped-sound, cells-count}
-use Rattle.conduction.specs.Light.{Lit, joined, litBy, light}
+use Rattle.conduction.specs.Light.{Lit, light}
 use Rattle.conduction.proofs.Light.{light-answers}
 use Rattle.listings.specs.declared.printing.Printed.{Printed}
 use Rattle.listings.specs.Listing.{listing, print}
 use Rattle.listings.specs.Printing.{printed}
 use Rattle.listings.specs.Loading.{Listed, loadEnd, loadOuts, loadCells, cellFault, withCell, loadFrom, recordOf, cellsOf, loadAt}
-use Rattle.listings.proofs.Answers.{print-long, print-fits, outputs-in}
+use Rattle.listings.proofs.Answers.{outputs-in}
 use Rattle.listings.proofs.Loaded.{told}
-use Rattle.listings.proofs.Printed.{in-range}
-use Rattle.listings.proofs.RoundTrip.{sound-zeros, print-zeros}
+use Rattle.listings.proofs.RoundTrip.{print-zeros}
 use Rattle.programs.specs.Programs.{programText, inputFits, mapProgram, setLine, readsLines, readings, lightAndRead, lightProgram}
-use Rattle.programs.specs.Setting.{setFound, noSet, setOf}
-use Rattle.programs.specs.Texts.{Said}
-use Rattle.programs.proofs.Texts.{whole-fits, said-nothing}
-use Rattle.programs.proofs.SetLine.{set-told, set-few}
+use Rattle.programs.specs.Setting.{setOf}
+use Rattle.programs.specs.Texts.{inRoom, wholeOrNone, Said}
+use Rattle.programs.proofs.SetLine.{setFound, set-done, set-told, set-few}
+use Rattle.conduction.proofs.Slices.{light-same}
+use Rattle.figures.proofs.Line.{afterFirst}
 
 -- the line of a refusal
 unfoldable pub refusedLine : ℕ → ℕ → List ℕ
@@ -89,14 +88,6 @@ map-maps s room w h =
     in
     rw same at m
 
-named-accepted : (s : List ℕ) → Named (accepted s)
-unfolding numberOf
-named-accepted s l e =
-    let d = accepted-done s (ap numberOf e) in
-    let f : accepted s ≡ done (d .0) = d .1 in
-    let z : _≡_ {A = ℕ} 0 1 = cc in
-    omega arith
-
 named-map : (s : List ℕ) (room : ℕ) → Named (mapJob s room)
 unfolding mapJob
 named-map s room = named-then (accepted s) _ (named-accepted s) (λ d. named-unless _ _ _ (named-done _))
@@ -116,24 +107,19 @@ module _ (s : List ℕ) (short : length s ≤ maxInput) where
   map-prints w h = rw (input-fits s _ short, h)
 
 -- what print hands over for a sound crossbar is its listing
+print-sound : (x : Crossbar) (codes : List ℕ) (room : ℕ) → sound x codes ≡ true → print x codes room ≡ wholeOrNone room (listing x codes)
+unfolding print wholeOrNone inRoom lowest
+print-sound x codes room h = rw h
+
 pub said-printed :
     (x : Crossbar) (codes : List ℕ) (room : ℕ) (r : Printed) (out : List ℕ)
     → sound x codes ≡ true
     → Answered (print x codes room) printed (λ (t : List ℕ). t) room r out
     → Said room (listing x codes) (r .length) out
-unfolding printed refusalOf valueOf bufferOf
+unfolding printed
 said-printed x codes room r out h a =
-    ⊎-elim
-    (λ (long : room < length (listing x codes)).
-    let e = print-long x codes room h long in
-    let n : r .length ≡ 0 = ap (λ (p : Printed). p .length) (a .answer ∙ ap printed e) in
-    rw n (said-nothing room out (listing x codes) long (a .buffer ∙ rw e)))
-    (λ (fits : length (listing x codes) ≤ room).
-    let e = print-fits x codes room h fits in
-    let n : r .length ≡ length (listing x codes) = ap (λ (p : Printed). p .length) (a .answer ∙ ap printed e) in
-    let g = whole-fits room (listing x codes) fits in
-    record { count = rw g n; bytes = rw g (a .buffer ∙ rw e) })
-    (below-or-not room (length (listing x codes)))
+    let e = print-sound x codes room h in
+    record { answer = ap (λ (p : Printed). p .length) (a .answer ∙ ap printed e); buffer = rw e at (a .buffer) }
 
 -- what print hands over of a buffer with zeros past the R·C codes
 pub said-mapped :
@@ -149,33 +135,11 @@ said-mapped w room more r out m a =
 
 -- light
 
--- zeros past the R·C codes change nothing
-getD-zeros : (n i : ℕ) → getD (zeros n) i 0 ≡ 0
-getD-zeros zero i = refl
-getD-zeros (suc n) zero = refl
-getD-zeros (suc n) (suc i) = getD-zeros n i
-
-getD-more : (l : List ℕ) (n i : ℕ) → getD (l ++ zeros n) i 0 ≡ getD l i 0
-getD-more [] n i = getD-zeros n i
-getD-more (a ∷ l) n zero = refl
-getD-more (a ∷ l) n (suc i) = getD-more l n i
-
-joined-zeros : (x : Crossbar) (codes : List ℕ) (n : ℕ) (setting : List ℕ) → joined x (codes ++ zeros n) setting ≡ joined x codes setting
-unfolding joined joins
-joined-zeros x codes n setting = λ i r c. conducts setting (cellOf (getD-more codes n (r * x .columns + c) i))
-
-pub light-zeros :
-    (x : Crossbar) (codes : List ℕ) (n : ℕ) (setting : List ℕ) (room : ℕ)
-    → size x ≤ length codes
-    → light x (codes ++ zeros n) setting room ≡ light x codes setting room
-unfolding light litBy
-light-zeros x codes n setting room h = rw (sound-zeros x codes n h, joined-zeros x codes n setting)
-
 -- the byte of a wire, and what is printed of the wires, with zeros past them
 readsLines-zeros : (wires : List ℕ) (n j : ℕ) (rows : List ℕ) → readsLines (wires ++ zeros n) j rows ≡ readsLines wires j rows
 unfolding readsLines
 readsLines-zeros wires n j [] = refl
-readsLines-zeros wires n j (r ∷ rows) = rw (getD-more wires n r, readsLines-zeros wires n (suc j) rows)
+readsLines-zeros wires n j (r ∷ rows) = rw (getD-before-zeros wires n r, readsLines-zeros wires n (suc j) rows)
 
 -- zeros past the wires
 abbrev pub lit-padded : Lit → ℕ → Lit
@@ -215,8 +179,8 @@ module _ (x : Crossbar) (codes setting : List ℕ) where
       (n : ℕ)
       → size x ≤ length codes
       → lightAndRead setting (record { head = x; codes = padded n codes }) ≡ lightAndRead setting (record { head = x; codes = codes })
-  unfolding lightAndRead padded
-  light-padded n h = rw (light-zeros x codes (n - length codes) setting (maxRows + maxColumns) h)
+  unfolding lightAndRead
+  light-padded n h = rw (light-same x codes n setting (maxRows + maxColumns) h)
 
 -- the listing of the second program: no refusal has number 0
 named-load-end : (x : Listed) (n : ℕ) (ls : Lines) → Named (loadEnd x n ls)
@@ -314,16 +278,11 @@ module _ (s : List ℕ) (short : length s ≤ maxInput) where
   abbrev follow : List ℕ → Listed → Outcome (List ℕ)
   follow vs y = lightAndRead vs (whole y)
 
-  pub set-refused : setOf (setLine (linesOf s)) .ok ≡ false → refusedLine 1 1 ≡ lightProgram s
-  unfolding lightProgram refusedLine programText _then_ setOf setFound
-  set-refused h =
-      ⊎-elim
-      (λ (d : (o : Taken) × (setLine (linesOf s) ≡ done o) × (o .later ≡ afterFirst (linesOf s))).
-      let e : setOf (setLine (linesOf s)) .ok ≡ true = rw (d .1) in
-      absurd (let z : _≡_ {A = ℕ} 0 1 = cc in omega arith))
-      (λ (d : setLine (linesOf s) ≡ refused 1 1).
-      sym (ap programText (input-fits s _ short ∙ ap (λ (o : Outcome Taken). o then λ o. loadFrom 2 (o .later) then follow (o .vals)) d)))
-      (set-told (linesOf s))
+  pub set-refused :
+      (numberOf (setLine (linesOf s)) ≡ 0 → ⊥)
+      → refusedLine (numberOf (setLine (linesOf s))) (lineOf (setLine (linesOf s))) ≡ lightProgram s
+  unfolding lightProgram
+  set-refused h = rw (input-fits s _ short) (refused-then (setLine (linesOf s)) _ h)
 
   -- the figures, and the lines of the listing
   pub record Set (vs : List ℕ) : Type 0 where
@@ -343,8 +302,8 @@ module _ (s : List ℕ) (short : length s ≤ maxInput) where
       absurd (let z : _≡_ {A = ℕ} 0 1 = cc in omega arith))
       (below-or-not (lineEnd s 0) (length s))
 
-  pub set-found : setOf (setLine (linesOf s)) .ok ≡ true → (vs : List ℕ) × Set vs
-  unfolding lightProgram _then_ setOf noSet
+  pub set-found : numberOf (setLine (linesOf s)) ≡ 0 → (vs : List ℕ) × Set vs
+  unfolding lightProgram _then_ numberOf
   set-found h =
       ⊎-elim
       (λ (d : (o : Taken) × (setLine (linesOf s) ≡ done o) × (o .later ≡ afterFirst (linesOf s))).
@@ -353,7 +312,7 @@ module _ (s : List ℕ) (short : length s ≤ maxInput) where
       let later : o .later ≡ linesOf rest = d .2 ∙ lines-after s 0 b in (
         o .vals,
         record {
-          is = ap setOf (d .1);
+          is = ap setOf (d .1) ∙ set-done o;
           few = set-few (linesOf s) o (d .1);
           ended = b;
           prints =
@@ -365,8 +324,8 @@ module _ (s : List ℕ) (short : length s ≤ maxInput) where
         },
       ))
       (λ (d : setLine (linesOf s) ≡ refused 1 1).
-      let e : setOf (setLine (linesOf s)) .ok ≡ false = rw d in
-      absurd (let z : _≡_ {A = ℕ} 0 1 = cc in omega arith))
+      let e : numberOf (setLine (linesOf s)) ≡ 1 = rw d in
+      absurd (omega arith))
       (set-told (linesOf s))
 
 -- what is printed of a buffer with zeros past the R·C codes

@@ -1,9 +1,8 @@
 -- The set line, read figure by figure: how many blanks follow a position says how many figures do.
 use Prim.Native.Nat.{ℕ, zero, suc, _+_, _-_, _≤_, _<_}
-use Prim.Native.String.{String}
 use mathlib.Core.Path.{_≡_, refl, sym, ap, _∙_}
 use mathlib.Core.Logic.{_⊎_, inl, inr, ⊎-elim}
-use mathlib.Core.Bool.{Bool, true, false, _&&_}
+use mathlib.Core.Bool.{true, false, _&&_}
 use mathlib.Core.Option.{Option, some, none, Option·map}
 use mathlib.Core.List.{List, [], _∷_, _++_, append-assoc, append-nil}
 use native.Mathlib.Omega.{arith}
@@ -14,39 +13,25 @@ use lib.Dec.{eqb, leb}
 use borrow.Author.Tests.{eqb-true, eqb-false, ne-eqb, le-leb, lt-leb, leb-true}
 use Rattle.common.specs.Limits.{maxSwitches}
 use Rattle.common.specs.Lists.{zeros, padded, all-of}
-use Rattle.common.specs.Outcome.{Outcome, done, refused, lowest, unless}
-use Rattle.common.proofs.Lists.{and-left, and-right, and-both, by-test, below-or-not, all-of-append, all-of-single}
+use Rattle.common.specs.Outcome.{Outcome, done, refused, lowest, unless, numberOf, lineOf, refusalOf, valueOf, bufferOf}
+use Rattle.common.proofs.Lists.{and-left, and-right, and-both, and-false, by-test, below-or-not, all-of-append, all-of-single}
 use Rattle.figures.specs.Bytes.{bytes, after}
 use Rattle.figures.specs.Figure.{Figured, isDigit, takeFigure, decimal}
-use Rattle.figures.specs.Line.{Lines, left, _⏎_, linesOf, afterFirst, lineEnd}
+use Rattle.figures.specs.Line.{Lines, left, _⏎_, linesOf, lineEnd}
 use Rattle.figures.specs.Position.{figureAt, stands}
 use Rattle.figures.specs.declared.Figure.the-variants.{At, Missing}
-use Rattle.figures.proofs.Decimals.{digit-range, decimal-bytes, decimal-taken}
-use Rattle.figures.proofs.Digits.{figure-missing, figure-taken, figure-inside}
+use Rattle.figures.proofs.Decimals.{decimal-bytes, decimal-taken}
+use Rattle.figures.proofs.Digits.{digit-range, figure-missing, figure-taken, figure-inside}
 use Rattle.figures.proofs.Ends.{line-ended, line-left}
-use Rattle.figures.proofs.Words.{after-standing, after-absent}
+use Rattle.figures.proofs.Words.{after-same, after-other, after-front, after-taken, after-standing, after-absent}
 use Rattle.forms.specs.Due.{Taken}
-use Rattle.forms.specs.Template.{Template, word, figure, values}
+use Rattle.forms.specs.Template.{figure, values}
 use Rattle.forms.specs.Forms.{setFigures, setForm}
+use Rattle.forms.proofs.Template.{values-word, values-figure, word-none, figure-none}
 use Rattle.programs.specs.declared.setting.SetLine.{SetLine}
 use Rattle.programs.specs.Programs.{blanks, setLine}
-use Rattle.programs.specs.Setting.{setFound, noSet, setOf}
-
--- a word at the front of a text
-taken : (w s r : List ℕ) → after w s ≡ some r → s ≡ w ++ r
-unfolding after
-taken [] s r h = cc
-taken (a ∷ w) [] r h = absurd (let z : _≡_ {A = ℕ} 0 1 = cc in omega arith)
-taken (a ∷ w) (b ∷ s) r h =
-    ⊎-elim
-    (λ (e : eqb a b ≡ true).
-    let p = taken w s r (rw (e, after) at h) in
-    let q = eqb-true a b e in
-    cc)
-    (λ (e : eqb a b ≡ false).
-    let g : none ≡ some r = rw (e, after) at h in
-    absurd (let z : _≡_ {A = ℕ} 0 1 = cc in omega arith))
-    (by-test (eqb a b))
+use Rattle.programs.specs.Setting.{noSet, setOf}
+use Rattle.figures.proofs.Line.{afterFirst}
 
 -- bytes that are no blanks
 blanks-other : (b : ℕ) (s : List ℕ) → (b ≡ 32 → ⊥) → blanks (b ∷ s) ≡ blanks s
@@ -73,38 +58,10 @@ set-blanks s = refl
 unfoldable pub figuresIn : List ℕ → Option (List ℕ)
 figuresIn s = values (setFigures (blanks s)) s
 
--- what a word and a figure take from the front of a text
-word-step : (w : String) (t : Template) (s r : List ℕ) → after (bytes w) s ≡ some r → values (word w ∷ t) s ≡ values t r
-unfolding values
-word-step w t s r h = rw (h, values)
-
-word-none : (w : String) (t : Template) (s : List ℕ) → after (bytes w) s ≡ none → values (word w ∷ t) s ≡ none
-unfolding values
-word-none w t s h = rw (h, values)
-
-figure-step :
-    (t : Template) (s : List ℕ) (f : Figured)
-    → takeFigure s ≡ some f
-    → values (figure ∷ t) s ≡ Option·map (λ vs. f .figure ∷ vs) (values t (f .rest))
-unfolding values
-figure-step t s f h = rw (h, values)
-
-figure-none : (t : Template) (s : List ℕ) → takeFigure s ≡ none → values (figure ∷ t) s ≡ none
-unfolding values
-figure-none t s h = rw (h, values)
-
-after-one : (a b : ℕ) (s : List ℕ) → eqb a b ≡ true → after (a ∷ []) (b ∷ s) ≡ some s
-unfolding after
-after-one a b s h = rw (h, after)
-
-after-other : (a b : ℕ) (s : List ℕ) → (b ≡ a → ⊥) → after (a ∷ []) (b ∷ s) ≡ none
-unfolding after
-after-other a b s h = rw (ne-eqb a b (λ (e : a ≡ b). h (sym e)), after)
-
 -- a figure more
 figures-blank : (s : List ℕ) → figuresIn (32 ∷ s) ≡ values (figure ∷ setFigures (blanks s)) s
 unfolding figuresIn blanks setFigures bytes
-figures-blank s = word-step " " (figure ∷ setFigures (blanks s)) (32 ∷ s) s (after-one 32 32 s refl)
+figures-blank s = values-word " " (figure ∷ setFigures (blanks s)) (32 ∷ s) s (after-front (32 ∷ []) s)
 
 figures-more :
     (s : List ℕ) (f : Figured)
@@ -113,7 +70,7 @@ figures-more :
 unfolding figuresIn
 figures-more s f h =
     figures-blank s
-    ∙ figure-step (setFigures (blanks s)) s f h
+    ∙ values-figure (setFigures (blanks s)) s f h
     ∙ ap (λ (n : ℕ). Option·map (λ (vs : List ℕ). f .figure ∷ vs) (values (setFigures n) (f .rest))) (figure-blanks s f h)
 
 figures-missing : (s : List ℕ) → takeFigure s ≡ none → figuresIn (32 ∷ s) ≡ none
@@ -129,15 +86,16 @@ unfolding values
 values-long a s = refl
 
 values-other : (n b : ℕ) (s : List ℕ) → (b ≡ 32 → ⊥) → (b ≡ 41 → s ≡ [] → ⊥) → values (setFigures n) (b ∷ s) ≡ none
-unfolding setFigures bytes
-values-other zero b [] h k = word-none ")" [] (b ∷ []) (after-other 41 b [] (λ (e : b ≡ 41). k e refl))
+unfolding setFigures bytes after
+values-other zero b [] h k =
+    word-none ")" [] (b ∷ []) (after-other 41 b [] [] (ne-eqb 41 b (λ (e : 41 ≡ b). k (sym e) refl)))
 values-other zero b (a ∷ s) h k =
     ⊎-elim
-    (λ (e : eqb 41 b ≡ true). word-step ")" [] (b ∷ a ∷ s) (a ∷ s) (after-one 41 b (a ∷ s) e) ∙ values-long a s)
-    (λ (e : eqb 41 b ≡ false).
-    word-none ")" [] (b ∷ a ∷ s) (after-other 41 b (a ∷ s) (λ (q : b ≡ 41). eqb-false 41 b e (sym q))))
+    (λ (e : eqb 41 b ≡ true). values-word ")" [] (b ∷ a ∷ s) (a ∷ s) (after-same 41 b [] (a ∷ s) e) ∙ values-long a s)
+    (λ (e : eqb 41 b ≡ false). word-none ")" [] (b ∷ a ∷ s) (after-other 41 b [] (a ∷ s) e))
     (by-test (eqb 41 b))
-values-other (suc n) b s h k = word-none " " (figure ∷ setFigures n) (b ∷ s) (after-other 32 b s h)
+values-other (suc n) b s h k =
+    word-none " " (figure ∷ setFigures n) (b ∷ s) (after-other 32 b [] s (ne-eqb 32 b (λ (e : 32 ≡ b). h (sym e))))
 
 figures-other : (b : ℕ) (s : List ℕ) → (b ≡ 32 → ⊥) → (b ≡ 41 → s ≡ [] → ⊥) → figuresIn (b ∷ s) ≡ none
 unfolding figuresIn
@@ -147,13 +105,21 @@ figures-none : figuresIn [] ≡ none
 unfolding figuresIn blanks setFigures values bytes after
 figures-none = refl
 
+-- the answer for figures that were found
+unfoldable pub setFound : List ℕ → SetLine
+setFound vs = record { refusal = record { number = 0; line = 0 }; count = length vs; figures = padded maxSwitches vs }
+
+pub set-done : (o : Taken) → setOf (done o) ≡ setFound (o .vals)
+unfolding setOf setFound refusalOf numberOf lineOf valueOf bufferOf
+set-done o = refl
+
 -- the answer for the figures of a line
 unfoldable pub answer : Option (List ℕ) → SetLine
 answer none = noSet
 answer (some vs) = elim (leb (length vs) maxSwitches && all-of (λ b. leb b 1) vs) [ true ↦ setFound vs | false ↦ noSet ]
 
 pub line-answer : (l : List ℕ) (ls : Lines) → setOf (setLine (l ⏎ ls)) ≡ answer (values (setForm (blanks l)) l)
-unfolding setLine answer setOf lowest unless
+unfolding setLine answer lowest unless
 line-answer l ls = by (values (setForm (blanks l)) l) refl
   where
     by :
@@ -163,13 +129,10 @@ line-answer l ls = by (values (setForm (blanks l)) l) refl
     by none e = rw (e, setLine)
     by (some vs) e =
         ⊎-elim
-        (λ (h : leb (length vs) maxSwitches && all-of (λ b. leb b 1) vs ≡ true). rw (e, h, setLine, answer))
+        (λ (h : leb (length vs) maxSwitches && all-of (λ b. leb b 1) vs ≡ true).
+        rw (e, h, setLine, answer) (set-done (record { vals = vs; later = ls })))
         (λ (h : leb (length vs) maxSwitches && all-of (λ b. leb b 1) vs ≡ false). rw (e, h, setLine, answer))
         (by-test (leb (length vs) maxSwitches && all-of (λ b. leb b 1) vs))
-
-and-false : (a b : Bool) → b ≡ false → a && b ≡ false
-and-false true b h = h
-and-false false b h = refl
 
 -- more figures than switches, and a figure above 1
 answer-many : (vs : List ℕ) → maxSwitches < length vs → answer (some vs) ≡ noSet
@@ -179,12 +142,12 @@ answer-many vs h = rw (lt-leb (length vs) maxSwitches h, answer)
 high-among : (us : List ℕ) (v : ℕ) (vs : List ℕ) → 1 < v → all-of (λ b. leb b 1) (us ++ v ∷ vs) ≡ false
 unfolding all-of
 high-among [] v vs h = rw (lt-leb v 1 h)
-high-among (u ∷ us) v vs h = and-false (leb u 1) (all-of (λ b. leb b 1) (us ++ v ∷ vs)) (high-among us v vs h)
+high-among (u ∷ us) v vs h = rw (high-among us v vs h) (and-false (leb u 1))
 
 answer-high : (us : List ℕ) (v : ℕ) (vs : List ℕ) → 1 < v → answer (some (us ++ v ∷ vs)) ≡ noSet
 unfolding answer
 answer-high us v vs h =
-    rw (and-false (leb (length (us ++ v ∷ vs)) maxSwitches) (all-of (λ b. leb b 1) (us ++ v ∷ vs)) (high-among us v vs h), answer)
+    rw (high-among us v vs h, and-false (leb (length (us ++ v ∷ vs)) maxSwitches), answer)
 
 answer-found : (vs : List ℕ) → length vs ≤ maxSwitches → all-of (λ b. leb b 1) vs ≡ true → answer (some vs) ≡ setFound vs
 unfolding answer
@@ -249,7 +212,7 @@ module _ (l : List ℕ) where
   unfolding setForm padded all-of figuresIn bytes maxSwitches
   reading-start h =
       let a : after (bytes "(set") l ≡ some (drop 4 l) = after-standing (bytes "(set") l 0 h in
-      let w : l ≡ bytes "(set" ++ drop 4 l = taken (bytes "(set") l (drop 4 l) a in
+      let w : l ≡ bytes "(set" ++ drop 4 l = after-taken (bytes "(set") l (drop 4 l) a in
       let b : blanks l ≡ blanks (drop 4 l) = ap blanks w ∙ set-blanks (drop 4 l) in
       record {
         seen = [];
@@ -260,7 +223,7 @@ module _ (l : List ℕ) where
         inside = omega (arith, ap length w);
         so-far =
             ap (λ (n : ℕ). values (setForm n) l) b
-            ∙ word-step "(set" (setFigures (blanks (drop 4 l))) l (drop 4 l) a
+            ∙ values-word "(set" (setFigures (blanks (drop 4 l))) l (drop 4 l) a
             ∙ ahead-nil (values (setFigures (blanks (drop 4 l))) (drop 4 l));
       }
 
@@ -339,7 +302,7 @@ module _ (l found : List ℕ) (count at : ℕ) (r : Reading l found count at) wh
     pub reading-done :
         length l ≡ at + 1
         → getD l at 0 ≡ 41
-        → _≡_ {A = SetLine} (record { ok = true; count = count; figures = found }) (setOf (setLine (l ⏎ left [])))
+        → _≡_ {A = SetLine} (record { refusal = record { number = 0; line = 0 }; count = count; figures = found }) (setOf (setLine (l ⏎ left [])))
     unfolding ahead setFound
     reading-done e b =
         let d : drop at l ≡ 41 ∷ [] = drop-cons l at 0 (omega arith) ∙ rw (b, drop-of-length-le l {i = suc at} (omega arith)) in
@@ -356,7 +319,7 @@ module _ (s : List ℕ) (e : ℕ) (end : e ≡ lineEnd s 0) where
       rw (line-ended s 0 b, end) (line-answer l (left []) ∙ sym (line-answer l (linesOf (drop (lineEnd s 0 + 1) s))))
 
   pub set-absent : length s ≤ e → noSet ≡ setOf (setLine (linesOf s))
-  unfolding setLine setOf
+  unfolding setLine
   set-absent h = let b : length s ≤ lineEnd s 0 = rw (← end) h in rw (line-left s 0 b)
 
 -- the set line is refused with ground 1 on line 1, or the lines that follow are those after the first

@@ -1,13 +1,17 @@
 -- What a program hands over for a text that was written into a clear buffer, and the readings part by part.
 use Prim.Native.Nat.{ℕ, _+_, _-_, _≤_, _<_}
 use mathlib.Core.Path.{_≡_, refl, sym, ap, _∙_}
-use mathlib.Core.List.{List, [], _∷_, _++_, append-assoc}
+use mathlib.Core.Logic.{⊎-elim}
+use mathlib.Core.List.{List, [], _∷_, _++_}
 use native.Mathlib.Omega.{arith}
 use native.Mathlib.Numerals.{add-one}
 use lib.ListN.{length, getD, take, length-append, length-replicate}
 use lib.Seq.{slice-empty, slice-cons, take-at}
-use borrow.Author.Tests.{le-leb, lt-leb}
+use borrow.Author.Tests.{le-ltb, lt-ltb}
 use Rattle.common.specs.Lists.{zeros, padded}
+use Rattle.common.specs.Outcome.{Outcome, done, refused, lowest, unless, valueOf, bufferOf, Answered}
+use Rattle.common.proofs.Lists.{below-or-not, padded-full}
+use Rattle.figures.specs.Position.{splice}
 use Rattle.cells.specs.declared.Crossbar.{Crossbar}
 use Rattle.conduction.specs.Light.{Lit}
 use Rattle.forms.specs.Template.{line}
@@ -15,37 +19,15 @@ use Rattle.forms.specs.Forms.{roundsForm, readsForm, endForm}
 use Rattle.forms.specs.Written.{Written}
 use Rattle.listings.proofs.Answers.{splice-zeros}
 use Rattle.programs.specs.Programs.{readsLines, readings}
-use Rattle.programs.specs.Texts.{wholeOrNone, Said, readsText}
+use Rattle.programs.specs.Texts.{inRoom, wholeOrNone, Said, readsText}
 
-pub whole-fits : (room : ℕ) (s : List ℕ) → length s ≤ room → wholeOrNone room s ≡ s
-unfolding wholeOrNone
-whole-fits room s h = rw (le-leb (length s) room h, wholeOrNone)
+pub room-fits : (room n : ℕ) (s : List ℕ) → n ≤ room → inRoom room n s ≡ done s
+unfolding inRoom lowest unless
+room-fits room n s h = rw (le-ltb room n h)
 
-pub whole-long : (room : ℕ) (s : List ℕ) → room < length s → wholeOrNone room s ≡ []
-unfolding wholeOrNone
-whole-long room s h = rw (lt-leb (length s) room h, wholeOrNone)
-
--- a text written into zeros: whole, or nothing where it does not fit
-pub said-next : (room n : ℕ) (out s : List ℕ) → n ≤ room → Written (zeros room) out 0 s n → Said room s n out
-said-next room n out s h w =
-    let z = length-replicate {A = ℕ} room 0 in
-    let f = w .within (omega arith) in
-    let q : n ≡ 0 + length s = f .0 in
-    let g = whole-fits room s (omega arith) in
-    record { count = rw g (omega arith); bytes = rw g (f .1 ∙ splice-zeros room s) }
-
-pub said-nothing : (room : ℕ) (out s : List ℕ) → room < length s → out ≡ zeros room → Said room s 0 out
-unfolding padded
-said-nothing room out s h e =
-    let g = whole-long room s h in
-    let n : room - 0 ≡ room = omega arith in
-    record { count = rw g; bytes = rw (g, n) e }
-
-pub said-full : (room n : ℕ) (t out s : List ℕ) → room < n → Written (zeros room) t 0 s n → out ≡ zeros room → Said room s 0 out
-said-full room n t out s h w z =
-    let l = length-replicate {A = ℕ} room 0 in
-    let f : length (zeros room) < 0 + length s = w .beyond (omega arith) in
-    said-nothing room out s (omega arith) z
+pub room-short : (room n : ℕ) (s : List ℕ) → room < n → inRoom room n s ≡ refused 14 0
+unfolding inRoom lowest unless
+room-short room n s h = rw (lt-ltb room n h)
 
 -- the text of what was said, said otherwise
 pub said-as : (room n : ℕ) (out s t : List ℕ) → s ≡ t → Said room s n out → Said room t n out
@@ -69,23 +51,46 @@ pub readings-parts : (x : Crossbar) (a : Lit) → readings x a ≡ (line roundsF
 unfolding readings readsText
 readings-parts x a = refl
 
--- a text written into a buffer that was cleared, and then said
+-- a text written into a buffer that was cleared, and the buffer handed over up to the position past it
 pub said-over :
     (room n : ℕ) (c t out s : List ℕ) (a : ℕ)
     → c ≡ zeros room
     → length t ≡ room
     → Written c t 0 s a
-    → ((w : List ℕ) → Written (zeros (length t)) t 0 w a → Said (length t) w n out)
+    → Answered (inRoom (length t) a t) (λ o. valueOf {B = ℕ} 0 (λ u. a) o) (λ u. u) (length t) n out
     → Said room s n out
-said-over room n c t out s a z k w f = let q : zeros (length t) ≡ c = ap zeros k ∙ sym z in rw k at (f s (rw q w))
+unfolding wholeOrNone valueOf bufferOf
+said-over room n c t out s a z k w h =
+    let l : length c ≡ room = ap length z ∙ length-replicate room 0 in
+    ⊎-elim
+    (λ (short : length t < a).
+    let e = room-short (length t) a t short in
+    let b : length c < 0 + length s = w .beyond (omega arith) in
+    let f = room-short room (length s) s (omega arith) in
+    record { answer = h .answer ∙ rw (e, f); buffer = h .buffer ∙ rw (e, f, k) })
+    (λ (fits : a ≤ length t).
+    let e = room-fits (length t) a t fits in
+    let b = w .within (omega arith) in
+    let q : a ≡ length s = b .0 ∙ omega arith in
+    let f = room-fits room (length s) s (omega arith) in
+    let p : padded (length t) t ≡ padded room s =
+    padded-full (length t) t refl ∙ b .1 ∙ ap (λ (u : List ℕ). splice u 0 s) z ∙ splice-zeros room s
+    in
+    record { answer = h .answer ∙ rw (e, f, q); buffer = h .buffer ∙ rw (e, f) p })
+    (below-or-not (length t) a)
 
 -- the count lies within the buffer, and that many bytes of it are the text where it fits
 pub said-within : (room n : ℕ) (s out : List ℕ) → Said room s n out → n ≤ length out
-unfolding padded
-said-within room n s out h = rw (h .count, h .bytes, length-append) (omega arith)
+unfolding valueOf bufferOf padded
+said-within room n s out h = by (wholeOrNone room s) h
+  where
+    by : (o : Outcome (List ℕ)) → Answered o (λ o. valueOf {B = ℕ} 0 length o) (λ (t : List ℕ). t) room n out → n ≤ length out
+    by (done t) a = rw (a .answer, a .buffer, length-append) (omega arith)
+    by (refused k l) a = rw (a .answer) (omega arith)
 
-pub said-whole : (room n : ℕ) (s out : List ℕ) → wholeOrNone room s ≡ s → Said room s n out → take n out ≡ s
-unfolding padded
+pub said-whole : (room n : ℕ) (s out : List ℕ) → wholeOrNone room s ≡ done s → Said room s n out → take n out ≡ s
+unfolding valueOf bufferOf padded
 said-whole room n s out e h =
-    let k : n ≡ length s = h .count ∙ ap length e in
-    rw (h .bytes, e) (take-at s (zeros (room - length s)) n (sym k))
+    let k : n ≡ length s = h .answer ∙ rw e in
+    let b : out ≡ s ++ zeros (room - length s) = h .buffer ∙ rw e in
+    rw b (take-at s (zeros (room - length s)) n (sym k))

@@ -1,21 +1,19 @@
 -- The set line's answer as its reader hands it over.
 use Prim.Native.Nat.{ℕ}
-use mathlib.Core.Bool.{true, false}
-use mathlib.Core.List.{List}
 use lib.ListN.{length}
 use Rattle.common.specs.Limits.{maxSwitches}
-use Rattle.common.specs.Lists.{zeros, padded}
-use Rattle.common.specs.Outcome.{Outcome, done, refused}
+use Rattle.common.specs.Outcome.{Outcome, refused, refusalOf, valueOf, bufferOf}
 use Rattle.forms.specs.Due.{Taken}
 use Rattle.programs.specs.declared.setting.SetLine.{SetLine}
 
--- the figures with zeros past them, or that there is no set line
-unfoldable pub setFound : List ℕ → SetLine
-setFound vs = record { ok = true; count = length vs; figures = padded maxSwitches vs }
-
-unfoldable pub noSet : SetLine
-noSet = record { ok = false; count = 0; figures = zeros maxSwitches }
-
+-- the refusal, the count of the figures, and the figures with zeros past them
 unfoldable pub setOf : Outcome Taken → SetLine
-setOf (done o) = setFound (o .vals)
-setOf (refused k n) = noSet
+setOf o = record {
+  refusal = refusalOf o;
+  count = valueOf {B = ℕ} 0 (λ t. length (t .vals)) o;
+  figures = bufferOf maxSwitches (λ t. t .vals) o;
+}
+
+-- for a line that is missing or not the form due
+abbrev pub noSet : SetLine
+noSet = setOf (refused 1 1)

@@ -74,8 +74,9 @@ pub fn light_text(input: &[u8], out: &mut [u8]) -> usize
         );
     }
     let set = set_line(input);
-    if !set.ok {
-        return refuse(out, Refusal { number: 1, line: 1 });
+    let refusal = set.refusal;
+    if refusal.number != 0 {
+        return refuse(out, refusal);
     }
     let next = figures::line_end(input, 0) + 1;
     let mut cells = [0u8; MAX_ROWS * MAX_COLUMNS];

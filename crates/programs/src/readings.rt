@@ -7,23 +7,26 @@ use forms::write::write_read;
 use forms::write::write_refused;
 use forms::write::write_rounds;
 ghost use mathlib.Core.Path.{_≡_};
-ghost use mathlib.Core.List.{List, _∷_, []};
-ghost use Prim.Native.Nat.{ℕ, _≤_};
+ghost use mathlib.Core.List.{_∷_, []};
+ghost use Prim.Native.Nat.{_≤_};
 ghost use lib.ListN.{length, getD};
 ghost use Rattle.common.specs.Limits.{maxOutputs};
-ghost use Rattle.common.specs.Lists.{zeros};
+ghost use Rattle.common.specs.Outcome.{valueOf, Answered};
 ghost use Rattle.forms.specs.Template.{line};
 ghost use Rattle.forms.specs.Forms.{refusedForm};
 ghost use Rattle.forms.specs.Written.{Written};
 ghost use Rattle.programs.specs.Programs.{readings};
-ghost use Rattle.programs.specs.Texts.{Said, readsText};
+ghost use Rattle.programs.specs.Texts.{inRoom, Said, readsText};
 
-// A text that was written at the start of a clear buffer: its length, or 0 and zeros in the whole buffer where it did not fit.
+// A buffer whose bytes up to `past` were written: `past`, or 0 and zeros in the whole buffer where they did not fit.
 fn said(out: &mut [u8], past: usize) -> usize
     ensures { λ r.
-        ⌜ ((s : List ℕ)
-        → Written (zeros (length (now (out .entry)))) (now (out .entry)) 0 s past
-        → Said (length (now (out .entry))) s r (now (out .exit))) ⌝ }
+        ⌜ Answered (inRoom (length (now (out .entry))) past (now (out .entry)))
+        (λ o. valueOf 0 (λ t. past) o)
+        (λ t. t)
+        (length (now (out .entry)))
+        r
+        (now (out .exit)) ⌝ }
 {
     if out.len() < past {
         common::clear(out);

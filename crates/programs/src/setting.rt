@@ -1,5 +1,6 @@
 // Document 01, "Two programs": the line `(set 1 1)`.
 use common::MAX_SWITCHES;
+use common::Refusal;
 use figures::Figure;
 ghost use mathlib.Core.Path.{_≡_};
 ghost use mathlib.Core.List.{[]};
@@ -15,19 +16,19 @@ const BLANK: u8 = 32;
 
 const CLOSE: u8 = 41;
 
-// The figures of the set line, zeros past them, or that the line is missing or not the form due.
+// The figures of the set line, zeros past them, or its refusal where it is missing or not the form due.
 pub struct SetLine {
-    pub ok: bool,
+    pub refusal: Refusal,
     pub count: usize,
     pub figures: [u8; MAX_SWITCHES],
 }
 
-// The answer for a line that is not the form due.
+// The answer for a line that is missing or not the form due: ground 1, line 1.
 fn no_set() -> SetLine
     ensures { λ r. ⌜ r ≡ noSet ⌝ }
 {
     SetLine {
-        ok: false,
+        refusal: Refusal { number: 1, line: 1 },
         count: 0,
         figures: [0; MAX_SWITCHES],
     }
@@ -76,7 +77,7 @@ fn read_set(line: &[u8]) -> SetLine
         return no_set();
     }
     SetLine {
-        ok: true,
+        refusal: Refusal { number: 0, line: 0 },
         count,
         figures: found,
     }

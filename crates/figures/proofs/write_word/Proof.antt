@@ -1,12 +1,11 @@
 -- `figures::write_word` meets its contract: after j bytes the buffer holds the first j bytes of the word at the position.
-use Prim.Native.Nat.{_+_, _-_, _≤_}
+use Prim.Native.Nat.{_-_, _≤_}
 use mathlib.Core.Path.{_≡_, refl, sym, ap, _∙_}
 use native.Mathlib.Omega.{arith}
-use borrow.Author.Needs.{needs}
 use lib.ListN.{length, take, length-set}
 use lib.Seq.{take-all}
 use Rattle.figures.specs.Position.{splice}
-use Rattle.figures.proofs.Writing.{length-splice, splice-nil, splice-more}
+use Rattle.figures.proofs.Writing.{splice-nil, splice-more}
 use Rattle.figures.proofs.write_word.Statement.{statement}
 use Rattle.figures.proofs.write_word.Tie as tie
 

@@ -4,7 +4,7 @@ use native.Mathlib.Omega.{arith}
 use borrow.Author.Needs.{needs}
 use Rattle.figures.specs.Bytes.{bytes}
 use Rattle.forms.specs.Forms.{onForm, yesForm, noForm}
-use Rattle.forms.proofs.Steps.{Run, last-word, then-word, then-figure}
+use Rattle.forms.proofs.Steps.{last-word, then-word, then-figure}
 use Rattle.forms.proofs.CellLine.{cell-run, cell-on, cell-yes, cell-no}
 use Rattle.forms.proofs.cell_line.Statement.{statement}
 use Rattle.forms.proofs.cell_line.Tie as tie

@@ -6,7 +6,7 @@ use Rattle.figures.specs.Bytes.{bytes}
 use Rattle.forms.specs.Forms.{endForm}
 use Rattle.forms.specs.Form.{endFrom}
 use Rattle.forms.proofs.Template.{end-apart}
-use Rattle.forms.proofs.Steps.{Run, last-word, read-run}
+use Rattle.forms.proofs.Steps.{last-word, read-run}
 use Rattle.forms.proofs.end_line.Statement.{statement}
 use Rattle.forms.proofs.end_line.Tie as tie
 

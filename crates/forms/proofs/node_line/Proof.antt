@@ -6,7 +6,7 @@ use Rattle.figures.specs.Bytes.{bytes}
 use Rattle.forms.specs.Forms.{nodeForm}
 use Rattle.forms.specs.Form.{nodeFrom}
 use Rattle.forms.proofs.Template.{node-apart}
-use Rattle.forms.proofs.Steps.{Run, last-word, then-figure, then-label, then-word, read-run}
+use Rattle.forms.proofs.Steps.{last-word, then-figure, then-label, then-word, read-run}
 use Rattle.forms.proofs.node_line.Statement.{statement}
 use Rattle.forms.proofs.node_line.Tie as tie
 

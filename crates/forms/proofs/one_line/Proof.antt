@@ -6,7 +6,7 @@ use Rattle.figures.specs.Bytes.{bytes}
 use Rattle.forms.specs.Forms.{oneForm}
 use Rattle.forms.specs.Form.{oneFrom}
 use Rattle.forms.proofs.Template.{one-apart}
-use Rattle.forms.proofs.Steps.{Run, last-word, then-label, then-word, read-run}
+use Rattle.forms.proofs.Steps.{last-word, then-label, then-word, read-run}
 use Rattle.forms.proofs.one_line.Statement.{statement}
 use Rattle.forms.proofs.one_line.Tie as tie
 

@@ -6,7 +6,7 @@ use Rattle.figures.specs.Bytes.{bytes}
 use Rattle.forms.specs.Forms.{outForm}
 use Rattle.forms.specs.Form.{outFrom}
 use Rattle.forms.proofs.Template.{out-apart}
-use Rattle.forms.proofs.Steps.{Run, last-word, then-figure, then-word, read-run}
+use Rattle.forms.proofs.Steps.{last-word, then-figure, then-word, read-run}
 use Rattle.forms.proofs.out_line.Statement.{statement}
 use Rattle.forms.proofs.out_line.Tie as tie
 

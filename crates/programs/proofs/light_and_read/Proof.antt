@@ -1,5 +1,4 @@
 -- `programs::light_and_read` meets its contract: the case of the definition that each return stands for.
-use mathlib.Core.Path.{refl}
 use Rattle.common.specs.Limits.{maxRows, maxColumns}
 use Rattle.programs.proofs.Answers.{lit-refused, lit-outputs, lit-prints}
 use Rattle.programs.proofs.Printing.{refusedLine}

@@ -1,12 +1,11 @@
 -- `programs::light_text` meets its contract: the case of the definition that each return stands for.
-use mathlib.Core.Path.{refl, sym, ap, _∙_}
+use mathlib.Core.Path.{refl}
 use Rattle.common.specs.Limits.{maxRows, maxColumns, maxInput}
 use native.Mathlib.Omega.{arith}
-use borrow.Author.Tests.{not-true, not-false}
 use Rattle.figures.proofs.Ends.{end-inside}
 use Rattle.programs.specs.Programs.{lightProgram}
-use Rattle.programs.proofs.Answers.{set-is, figures-taken, figures-within, loaded-refused, loaded-prints}
-use Rattle.programs.proofs.Printing.{refusedLine, input-long, set-refused}
+use Rattle.programs.proofs.Answers.{line-refused, set-is, figures-taken, figures-within, loaded-refused, loaded-prints}
+use Rattle.programs.proofs.Printing.{refusedLine, input-long}
 use Rattle.programs.proofs.Texts.{said-as}
 use borrow.Author.Needs.{needs}
 use Rattle.programs.proofs.light_text.Statement.{statement}
@@ -36,7 +35,7 @@ returns-2 : tie.Need-returns-2
 unfolding refusedLine maxInput
 returns-2 c =
     said-as _ _ _ _ _
-    (set-refused _ (c .before .before .before .before .before .before .before .if1 .left) (ap (λ q. q .ok) (sym (c .before .before .before .before .before .before .set-line .ensures)) ∙ not-true _ (c .before .before .before .before .if2 .taken)))
+    (line-refused _ (c .before .before .before .before .before .before .before .before .if1 .left) _ (c .before .before .before .before .before .before .before .set-line .ensures) (c .before .before .before .before .if2 .taken))
     (c .before .before .refuse2 .ensures)
 
 line-end-requires : tie.Need-line-end-requires
@@ -44,7 +43,7 @@ line-end-requires c κs = search needs
 
 add-next : tie.Need-add-next
 add-next c =
-    let a = c .before .before .before .before .before .before .before .args in
+    let a = c .before .before .before .before .before .before .before .before .args in
     omega (arith, end-inside (a .input .now) 0 (omega arith), c .line-end .ensures)
 
 slice-aggregate-load-from : tie.Need-slice-aggregate-load-from
@@ -63,9 +62,9 @@ same-length-3 c = search needs
 returns-3 : tie.Need-returns-3
 unfolding refusedLine maxRows maxColumns maxInput
 returns-3 c =
-    let l = set-is _ (c .before .before .before .before .before .before .before .before .before .before .before .before .before .before .if1 .left) _ (c .before .before .before .before .before .before .before .before .before .before .before .before .before .set-line .ensures) (not-false _ (c .before .before .before .before .before .before .before .before .before .before .before .if2 .left)) in
+    let l = set-is _ (c .before .before .before .before .before .before .before .before .before .before .before .before .before .before .before .if1 .left) _ (c .before .before .before .before .before .before .before .before .before .before .before .before .before .before .set-line .ensures) (c .before .before .before .before .before .before .before .before .before .before .before .if2 .left) in
     said-as _ _ _ _ _
-    (loaded-refused _ (c .before .before .before .before .before .before .before .before .before .before .before .before .before .before .if1 .left) (l .0) (l .1) _ (c .before .before .before .before .before .before .before .before .before .before .line-end .ensures) _ _ _ (c .before .before .before .before .before .before .before .before .load-from .ensures) refl (c .before .before .before .before .if3 .taken))
+    (loaded-refused _ (c .before .before .before .before .before .before .before .before .before .before .before .before .before .before .before .if1 .left) (l .0) (l .1) _ (c .before .before .before .before .before .before .before .before .before .before .line-end .ensures) _ _ _ (c .before .before .before .before .before .before .before .before .load-from .ensures) refl (c .before .before .before .before .if3 .taken))
     (c .before .before .refuse3 .ensures)
 
 slice-aggregate-light-and-read : tie.Need-slice-aggregate-light-and-read
@@ -80,7 +79,7 @@ part-light-and-read-start c = search needs
 part-light-and-read-end : tie.Need-part-light-and-read-end
 unfolding maxInput
 part-light-and-read-end c =
-    let l = set-is _ (c .before .before .before .before .before .before .before .before .before .before .before .before .before .before .if1 .left) _ (c .before .before .before .before .before .before .before .before .before .before .before .before .before .set-line .ensures) (not-false _ (c .before .before .before .before .before .before .before .before .before .before .before .if2 .left)) in
+    let l = set-is _ (c .before .before .before .before .before .before .before .before .before .before .before .before .before .before .before .if1 .left) _ (c .before .before .before .before .before .before .before .before .before .before .before .before .before .before .set-line .ensures) (c .before .before .before .before .before .before .before .before .before .before .before .if2 .left) in
     figures-within (l .0) _ (l .2) (l .1 .few)
 
 light-and-read-requires : tie.Need-light-and-read-requires
@@ -92,10 +91,10 @@ same-length-4 c = search needs
 returns-4 : tie.Need-returns-4
 unfolding maxRows maxColumns maxInput
 returns-4 c =
-    let l = set-is _ (c .before .before .before .before .before .before .before .before .before .before .before .before .before .before .before .before .before .before .before .if1 .left) _ (c .before .before .before .before .before .before .before .before .before .before .before .before .before .before .before .before .before .before .set-line .ensures) (not-false _ (c .before .before .before .before .before .before .before .before .before .before .before .before .before .before .before .before .if2 .left)) in
+    let l = set-is _ (c .before .before .before .before .before .before .before .before .before .before .before .before .before .before .before .before .before .before .before .before .if1 .left) _ (c .before .before .before .before .before .before .before .before .before .before .before .before .before .before .before .before .before .before .before .set-line .ensures) (c .before .before .before .before .before .before .before .before .before .before .before .before .before .before .before .before .if2 .left) in
     let t = figures-taken (l .0) _ (l .2) in
     said-as _ _ _ _ _
-    (loaded-prints _ (c .before .before .before .before .before .before .before .before .before .before .before .before .before .before .before .before .before .before .before .if1 .left) (l .0) (l .1) _ (c .before .before .before .before .before .before .before .before .before .before .before .before .before .before .before .line-end .ensures) _ _ _ (c .before .before .before .before .before .before .before .before .before .before .before .before .before .load-from .ensures) refl (c .before .before .before .before .before .before .before .before .before .if3 .left))
+    (loaded-prints _ (c .before .before .before .before .before .before .before .before .before .before .before .before .before .before .before .before .before .before .before .before .if1 .left) (l .0) (l .1) _ (c .before .before .before .before .before .before .before .before .before .before .before .before .before .before .before .line-end .ensures) _ _ _ (c .before .before .before .before .before .before .before .before .before .before .before .before .before .load-from .ensures) refl (c .before .before .before .before .before .before .before .before .before .if3 .left))
     (rw t at (c .before .before .light-and-read .ensures))
 
 pub light-text-spec : {M : Type 1} → statement M

@@ -5,7 +5,7 @@ use native.Mathlib.Omega.{arith}
 use borrow.Author.Tests.{le-leb, lt-leb}
 use Rattle.common.specs.Limits.{maxRows, maxColumns, maxSwitches}
 use Rattle.cells.proofs.Every.{held, broken}
-use Rattle.cells.proofs.Sizes.{sizes, sound-by}
+use Rattle.cells.proofs.Sizes.{in-range, sound-by}
 use borrow.Author.Needs.{needs}
 use Rattle.cells.proofs.checks.is_sound.Statement.{statement}
 use Rattle.cells.proofs.checks.is_sound.Tie as tie
@@ -38,7 +38,7 @@ cast-size-2 c = search needs
 
 mul-size : tie.Need-mul-size
 unfolding maxRows maxColumns
-mul-size c = omega (arith, sizes _ _ _ _ (held (c .before .before .before .in-range .ensures) (c .before .before .if1 .left)) .cells)
+mul-size c = omega (arith, in-range _ _ _ _ (held (c .before .before .before .in-range .ensures) (c .before .before .if1 .left)) .cells-most)
 
 returns-2 : tie.Need-returns-2
 returns-2 c =
@@ -67,19 +67,19 @@ mul-at-most : tie.Need-mul-at-most
 unfolding maxSwitches
 mul-at-most c =
     let else1 = c .before .before .before .before .before .before in
-    omega (arith, sizes _ _ _ _ (held (else1 .before .in-range .ensures) (else1 .if1 .left)) .switches)
+    omega (arith, in-range _ _ _ _ (held (else1 .before .in-range .ensures) (else1 .if1 .left)) .switches-most)
 
 add-at-most : tie.Need-add-at-most
 unfolding maxSwitches
 add-at-most c =
     let else1 = c .before .before .before .before .before .before in
-    omega (arith, sizes _ _ _ _ (held (else1 .before .in-range .ensures) (else1 .if1 .left)) .switches)
+    omega (arith, in-range _ _ _ _ (held (else1 .before .in-range .ensures) (else1 .if1 .left)) .switches-most)
 
 cast-at-most : tie.Need-cast-at-most
 unfolding maxSwitches
 cast-at-most c =
     let else1 = c .before .before .before .before .before .before in
-    omega (arith, sizes _ _ _ _ (held (else1 .before .in-range .ensures) (else1 .if1 .left)) .switches)
+    omega (arith, in-range _ _ _ _ (held (else1 .before .in-range .ensures) (else1 .if1 .left)) .switches-most)
 
 at-most-requires : tie.Need-at-most-requires
 at-most-requires c κs = search needs
@@ -103,7 +103,7 @@ cast-used c = search needs
 outs-below-requires : tie.Need-outs-below-requires
 outs-below-requires c κs =
     let else1 = c .before .before .before .before .before .before .before .before .before .before in
-    sizes _ _ _ _ (held (else1 .before .in-range .ensures) (else1 .if1 .left)) .outputs
+    in-range _ _ _ _ (held (else1 .before .in-range .ensures) (else1 .if1 .left)) .outputs-most
 
 returns-5 : tie.Need-returns-5
 returns-5 c =

@@ -1,9 +1,9 @@
 -- `conduction::lighting::conducting` meets its contract: the codes before the next one are in the table.
 use Prim.Native.Nat.{ℕ, _+_, _-_, _*_, _≤_, _<_}
-use mathlib.Core.Path.{_≡_, refl, sym, ap, _∙_}
-use mathlib.Core.List.{List, _++_}
+use mathlib.Core.Path.{_≡_, refl, ap, _∙_}
+use mathlib.Core.List.{_++_}
 use native.Mathlib.Omega.{arith}
-use lib.ListN.{length, set, drop, length-replicate}
+use lib.ListN.{length, drop, length-replicate}
 use Rattle.common.specs.Limits.{maxSwitches}
 use Rattle.common.specs.Lists.{bit, zeros, tab, padded}
 use Rattle.common.proofs.Lists.{tab-more, length-tab, drop-zeros}

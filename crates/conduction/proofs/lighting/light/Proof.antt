@@ -3,7 +3,8 @@ use mathlib.Core.Path.{refl}
 use native.Mathlib.Omega.{arith}
 use lib.ListN.{length}
 use Rattle.cells.proofs.Every.{held, broken}
-use Rattle.cells.proofs.Sizes.{sound-has, setting-long}
+use Rattle.cells.specs.Record.{size}
+use Rattle.cells.proofs.Sizes.{sound-facts, setting-length}
 use Rattle.conduction.proofs.Promise.{by-12, by-13, by-14, answers-refused, answers-15, answers-done}
 use borrow.Author.Needs.{needs}
 use Rattle.conduction.proofs.lighting.light.Statement.{statement}
@@ -80,6 +81,7 @@ returns-3 c =
     (c .refuse3 .ensures) (cleared .ensures)
 
 light-wires-requires : tie.Need-light-wires-requires
+unfolding size
 light-wires-requires c κs =
     let else2 = c .before .before .before .before in
     let else1 = else2 .before in
@@ -87,16 +89,16 @@ light-wires-requires c κs =
     let sounded = tested .before in
     let cleared = sounded .before .before .before .clear in
     let args = sounded .before .before .before .before .before .before .before .before .args in
-    let has = sound-has (args .x) (args .cells .now) (held (sounded .is-sound .ensures) (else1 .if1 .left)) in
+    let has = sound-facts (args .x) (args .cells .now) (held (sounded .is-sound .ensures) (else1 .if1 .left)) in
     let fits = held (tested .is-setting .ensures) (else2 .if2 .left) in
-    let long = setting-long (args .x .switches) (args .setting .now) fits in
+    let long = setting-length (args .x .switches) (args .setting .now) fits in
     record {
-      row-0 = has .head .row;
-      rows-fit = has .head .rows;
-      columns-fit = has .head .columns;
-      cells-fit = has .fits;
-      codes-fit = rw long (has .codes);
-      switches-fit = rw long (has .head .switches);
+      row-0 = has .sizes .rows-least;
+      rows-fit = has .sizes .rows-most;
+      columns-fit = has .sizes .columns-most;
+      cells-fit = has .enough;
+      codes-fit = rw long (has .codes-low);
+      switches-fit = rw long (has .sizes .switches-most);
       setting-fits = rw long fits;
       wires-fit = c .before .if3 .left;
     }

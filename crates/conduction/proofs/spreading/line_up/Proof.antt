@@ -1,5 +1,5 @@
 -- `conduction::spreading::line_up` meets its contract: the first i wires stand in order, and the next is at hand.
-use Prim.Native.Nat.{_+_, _-_, _≤_, _<_}
+use Prim.Native.Nat.{_+_, _-_, _≤_}
 use mathlib.Core.Path.{_≡_, refl, _∙_}
 use mathlib.Core.List.{_++_, append-nil}
 use native.Mathlib.Omega.{arith}

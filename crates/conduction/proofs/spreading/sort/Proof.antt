@@ -3,7 +3,7 @@ use Prim.Native.Nat.{ℕ, _+_, _-_, _≤_}
 use mathlib.Core.Path.{_≡_, refl, sym, ap, _∙_}
 use mathlib.Core.Logic.{⊎-elim}
 use native.Mathlib.Omega.{arith}
-use lib.ListN.{length, getD, set, length-set}
+use lib.ListN.{length, length-set}
 use Rattle.conduction.specs.Wires.{addsOf, passes, Sorted}
 use Rattle.conduction.proofs.Sorting.{sorted-none, sorted-pass, sorted-name}
 use borrow.Author.Needs.{needs}

@@ -1,12 +1,11 @@
 -- `conduction::stamping::rounds` meets its contract: whenever the loop begins again, t rounds were run and each added a wire.
-use Prim.Native.Nat.{ℕ, _+_, _-_, _<_, _≤_}
-use mathlib.Core.Path.{_≡_, refl, sym, ap, _∙_}
+use Prim.Native.Nat.{_+_, _-_}
+use mathlib.Core.Path.{refl, _∙_}
 use native.Mathlib.Omega.{arith}
 use native.Mathlib.Nat.{le-trans, mul-le-mul-left, mul-le-mul-right}
 use lib.ListN.{length}
 use Rattle.common.specs.Limits.{maxRows, maxColumns}
 use Rattle.conduction.proofs.Counting.{Running, running-start, running-none, running-rest, running-on}
-use borrow.Author.Needs.{needs}
 use Rattle.conduction.proofs.stamping.rounds.Statement.{statement}
 use Rattle.conduction.proofs.stamping.rounds.Tie as tie
 

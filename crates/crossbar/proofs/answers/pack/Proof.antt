@@ -6,7 +6,7 @@ use Rattle.common.specs.declared.Refusal.{Refusal}
 use Rattle.common.specs.Outcome.{done}
 use Rattle.common.proofs.Outcome.{unless-none}
 use Rattle.crossbar.specs.Host.{numberUnit, packed, mostNumber, packedFrom}
-use Rattle.crossbar.proofs.Numbers.{unless-some}
+use Rattle.common.proofs.Outcome.{unless-some}
 use Rattle.crossbar.proofs.answers.pack.Statement.{statement}
 use Rattle.crossbar.proofs.answers.pack.Tie as tie
 

@@ -1,9 +1,7 @@
 -- `forms::write::put_figure` meets its contract: the room decides, and then the word is written and the figure after it.
-use mathlib.Core.Path.{_≡_}
 use native.Mathlib.Omega.{arith}
 use borrow.Author.Needs.{needs}
-use lib.ListN.{length, length-append}
-use Rattle.figures.specs.Figure.{decimal}
+use lib.ListN.{length-append}
 use Rattle.figures.proofs.Writing.{length-most}
 use Rattle.forms.proofs.Parts.{written-there, written-not, written-then}
 use Rattle.forms.proofs.write.put_figure.Statement.{statement}

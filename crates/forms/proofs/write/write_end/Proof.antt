@@ -2,7 +2,7 @@
 use borrow.Author.Needs.{needs}
 use Rattle.figures.specs.Bytes.{bytes}
 use Rattle.forms.specs.Forms.{endForm}
-use Rattle.forms.proofs.Parts.{Parts, last-part, written-line}
+use Rattle.forms.proofs.Parts.{last-part, written-line}
 use Rattle.forms.proofs.write.write_end.Statement.{statement}
 use Rattle.forms.proofs.write.write_end.Tie as tie
 

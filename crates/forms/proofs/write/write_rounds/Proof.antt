@@ -2,7 +2,7 @@
 use borrow.Author.Needs.{needs}
 use Rattle.figures.specs.Bytes.{bytes}
 use Rattle.forms.specs.Forms.{roundsForm}
-use Rattle.forms.proofs.Parts.{Parts, last-part, then-part, written-line}
+use Rattle.forms.proofs.Parts.{last-part, then-part, written-line}
 use Rattle.forms.proofs.write.write_rounds.Statement.{statement}
 use Rattle.forms.proofs.write.write_rounds.Tie as tie
 

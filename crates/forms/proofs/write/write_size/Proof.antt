@@ -2,7 +2,7 @@
 use borrow.Author.Needs.{needs}
 use Rattle.figures.specs.Bytes.{bytes}
 use Rattle.forms.specs.Forms.{crossbarForm}
-use Rattle.forms.proofs.Parts.{Parts, last-part, then-part, written-line}
+use Rattle.forms.proofs.Parts.{last-part, then-part, written-line}
 use Rattle.forms.proofs.write.write_size.Statement.{statement}
 use Rattle.forms.proofs.write.write_size.Tie as tie
 

@@ -6,7 +6,7 @@ use Rattle.common.specs.Limits.{maxNodes}
 use Rattle.common.specs.Lists.{zeros}
 use Rattle.diagram.proofs.TableLaws.{idCount-tabled}
 use Rattle.forms.proofs.Cases.{not-out}
-use Rattle.jobs.proofs.Due.{out-none, out-stops, out-goes, out-below}
+use Rattle.jobs.proofs.Due.{out-none, out-stops, out-goes}
 use borrow.Author.Needs.{needs}
 use Rattle.jobs.proofs.lines.out_line.Statement.{statement}
 use Rattle.jobs.proofs.lines.out_line.Tie as tie
@@ -16,6 +16,7 @@ use Rattle.diagram.proofs.faults.out_fault.Reads as out-fault-reads
 use Rattle.forms.proofs.out_line.Reads as out-line-reads
 use Rattle.forms.proofs.refusal_of.Reads as refusal-of-reads
 use Rattle.jobs.proofs.lines.no_out.Reads as no-out-reads
+use Rattle.diagram.proofs.Valid.{out-below}
 
 out-line-requires : tie.Need-out-line-requires
 out-line-requires c κs = search needs

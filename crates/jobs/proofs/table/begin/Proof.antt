@@ -1,5 +1,5 @@
 -- `jobs::table::begin` meets its contract.
-use mathlib.Core.Path.{refl, sym, _∙_}
+use mathlib.Core.Path.{sym, _∙_}
 use Rattle.common.specs.Limits.{maxIds, maxNodes}
 use Rattle.jobs.proofs.Spread.{begun-done, begun-refused}
 use borrow.Author.Needs.{needs}

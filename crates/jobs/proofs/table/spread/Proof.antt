@@ -3,7 +3,7 @@ use mathlib.Core.Path.{_≡_, refl, sym, _∙_, ap, subst}
 use Prim.Native.Nat.{ℕ, zero, suc, _+_, _≤_, _<_, _^_}
 use native.Mathlib.Nat.{add-zero, add-suc, zero-add, suc-add, lt-suc-self, lt-irrefl}
 use native.Mathlib.Omega.{arith}
-use mathlib.Core.Bool.{Bool, true, false}
+use mathlib.Core.Bool.{Bool}
 use mathlib.Core.List.{List, [], _∷_}
 use lib.ListN.{length, getD}
 use lib.WfN.{Nat·lt-wfRel}
@@ -77,6 +77,8 @@ use Rattle.jobs.proofs.table.spread as spread
 use Rattle.jobs.proofs.table.spread.Statement as stated
 use Rattle.jobs.proofs.table.spread.Code as code
 use Rattle.jobs.proofs.table.spread.Code.Mir as mir′
+use native.Mathlib.Numerals.{add-one}
+use Rattle.jobs.proofs.table.Walked.{holds, fails, count-of}
 
 -- the flat table's type
 abbrev Flat : RattleType
@@ -84,18 +86,6 @@ Flat = Array u16 1024
 
 abbrev stayed : Stays (spread.ended .signature .params) (spread.ended .kept)
 stayed = (stay-none-slice (0 ∷ []) tt (plain (λ _. N.the-row)) yes, (stay-none (λ _. J.the-row) yes, (stay-ref (1 ∷ []) tt (ArrayOf (plain (λ _. u16)) (λ _. tt) 1024), tt)))
-
--- ---- truth values
-holds : (t : Bool) → T t → t ≡ true
-holds true _ = refl
-holds false a = absurd a
-
-fails : (t : Bool) → (T t → ⊥) → t ≡ false
-fails true f = absurd (f tt)
-fails false _ = refl
-
-one-more : (k : ℕ) → k + 1 ≡ suc k
-one-more k = add-suc k zero ∙ ap suc (add-zero k)
 
 -- the id of an entry, and the next number, fit a word
 small : {k n : ℕ} → k < n → n ≤ maxNodes → k + 2 < 2 ^ 64
@@ -149,9 +139,6 @@ module _ {M : Type 1} (𝓤 : URA M) (H : Heap 𝓤) (A : Atoms 𝓤) (mem : Mem
   PutEntry = tripleOf 𝓤 H A put-entry.signature (put-entry.spec 𝓤 H A mem run)
 
   -- of each callee's `ensured` that has no last value, the clause alone
-  count-of : (r : JobRead) (n : ℕ) → ent 𝓤 (ensured 𝓤 H A node-count.ended (node-count.clauses 𝓤 H A mem run) tt (r, tt) tt n) (fact 𝓤 (n ≡ r .job .nodes))
-  count-of r n = exE 𝓤 _ (λ ws. snd∗ 𝓤 (sem 𝓤 H A (lasts node-count.ended tt (r, tt) ws)) (fact 𝓤 (n ≡ r .job .nodes)))
-
   got : (κ : Lft) (t : RefT (List Node)) (k : ℕ) (v : Node) → ent 𝓤 (ensured 𝓤 H A get.ended (get.clauses 𝓤 H A mem run) (κ, tt) (t, (k, tt)) tt v) (fact 𝓤 (v ≡ getD (t .now) k no-node))
   got κ t k v = exE 𝓤 _ (λ ws. snd∗ 𝓤 (sem 𝓤 H A (lasts get.ended (κ, tt) (t, (k, tt)) ws)) (fact 𝓤 (v ≡ getD (t .now) k no-node)))
 
@@ -298,7 +285,7 @@ module _ {M : Type 1} (𝓤 : URA M) (H : Heap 𝓤) (A : Atoms 𝓤) (W : Given
         move ! (2 ∷ []) $ drop ! $ move ! (2 ∷ []) $ drop ! $
         -- [the flat table; κ₁'s token; κ₀'s token; nodes; _5; _6; _9; …; _12; _1; …]
         assigns-last ! (bin ! (load ! (from ! (stop !)) (look ! 4 refl)) (lit ! tt) (record { fits = after })) (from ! (stop !)) (store ! 4 refl (tt, record { fits = after })) $
-        rewrite ! 4 (λ (j : ℕ). ‵ (fat fullShare word l₅ 0 (vint w64 j))) (one-more k) refl $
+        rewrite ! 4 (λ (j : ℕ). ‵ (fat fullShare word l₅ 0 (vint w64 j))) (add-one k) refl $
         forget ! 5 refl $ forget ! 6 refl $ forget ! 7 refl $ forget ! 8 refl $ forget ! 9 refl $
         keep ! (0 ∷ 1 ∷ 4 ∷ 5 ∷ 6 ∷ 7 ∷ 8 ∷ 9 ∷ 10 ∷ 11 ∷ 12 ∷ 13 ∷ 14 ∷ 15 ∷ 16 ∷ 17 ∷ 18 ∷ 19 ∷ 20 ∷ 21 ∷ 22 ∷ 23 ∷ 24 ∷ 25 ∷ 26 ∷ 27 ∷ 28 ∷ 29 ∷ 2 ∷ 3 ∷ []) $
         by ! (next (ws .0) (spread-more (begun r) (s .now) k l (ws .0) v so e f)))))))))))))
@@ -320,23 +307,23 @@ module _ {M : Type 1} (𝓤 : URA M) (H : Heap 𝓤) (A : Atoms 𝓤) (W : Given
         by ! (exits l f)
 
     -- the invariant, where d entries are left
-    abbrev Facts : ℕ → ℕ → List ℕ → Type 0
-    Facts d k l = (k + d ≡ n) × (l ≡ spread-of (begun r) (s .now) k)
+    abbrev TurnFacts : ℕ → ℕ → List ℕ → Type 0
+    TurnFacts d k l = (k + d ≡ n) × (l ≡ spread-of (begun r) (s .now) k)
 
     abbrev Inv : ℕ → SProp 𝓤
-    Inv d = ex 𝓤 (λ (k : ℕ). ex 𝓤 (λ (l : List ℕ). guard 𝓤 (Facts d k l) (⋆ 𝓤 H A (At k l))))
+    Inv d = ex 𝓤 (λ (k : ℕ). ex 𝓤 (λ (l : List ℕ). guard 𝓤 (TurnFacts d k l) (⋆ 𝓤 H A (At k l))))
 
     abbrev Below : ℕ → SProp 𝓤
     Below d = ex 𝓤 (λ (d′ : ℕ). guard 𝓤 (d′ < d) (Inv d′))
 
-    invariant : (d k : ℕ) (l : List ℕ) → Facts d k l → ent 𝓤 (⋆ 𝓤 H A (At k l)) (Inv d)
+    invariant : (d k : ℕ) (l : List ℕ) → TurnFacts d k l → ent 𝓤 (⋆ 𝓤 H A (At k l)) (Inv d)
     invariant d k l f =
-        via 𝓤 (guard 𝓤 (Facts d k l) (⋆ 𝓤 H A (At k l))) (guardI 𝓤 (Facts d k l) (⋆ 𝓤 H A (At k l)) f)
-        (via 𝓤 (ex 𝓤 (λ (z : List ℕ). guard 𝓤 (Facts d k z) (⋆ 𝓤 H A (At k z)))) (exI 𝓤 (λ (z : List ℕ). guard 𝓤 (Facts d k z) (⋆ 𝓤 H A (At k z))) l)
-        (exI 𝓤 (λ (j : ℕ). ex 𝓤 (λ (z : List ℕ). guard 𝓤 (Facts d j z) (⋆ 𝓤 H A (At j z)))) k))
+        via 𝓤 (guard 𝓤 (TurnFacts d k l) (⋆ 𝓤 H A (At k l))) (guardI 𝓤 (TurnFacts d k l) (⋆ 𝓤 H A (At k l)) f)
+        (via 𝓤 (ex 𝓤 (λ (z : List ℕ). guard 𝓤 (TurnFacts d k z) (⋆ 𝓤 H A (At k z)))) (exI 𝓤 (λ (z : List ℕ). guard 𝓤 (TurnFacts d k z) (⋆ 𝓤 H A (At k z))) l)
+        (exI 𝓤 (λ (j : ℕ). ex 𝓤 (λ (z : List ℕ). guard 𝓤 (TurnFacts d j z) (⋆ 𝓤 H A (At j z)))) k))
 
     -- a turn from the invariant at d leaves the loop, or ends in the invariant below d
-    turn-at : (d k : ℕ) (l : List ℕ) → Facts d k l → ent 𝓤 (⋆ 𝓤 H A (At k l)) (Wp 𝓤 H C Λ En mir′.turn-1 (afterTurn 𝓤 H (Below d) Left))
+    turn-at : (d k : ℕ) (l : List ℕ) → TurnFacts d k l → ent 𝓤 (⋆ 𝓤 H A (At k l)) (Wp 𝓤 H C Λ En mir′.turn-1 (afterTurn 𝓤 H (Below d) Left))
     turn-at zero k l f =
         let all : k ≡ n = sym (add-zero k) ∙ f .0 in
         subst (λ (j : ℕ). ent 𝓤 (⋆ 𝓤 H A (At j l)) (Wp 𝓤 H C Λ En mir′.turn-1 (afterTurn 𝓤 H (Below zero) Left))) (sym all)
@@ -348,8 +335,8 @@ module _ {M : Type 1} (𝓤 : URA M) (H : Heap 𝓤) (A : Atoms 𝓤) (W : Given
         (via 𝓤 (guard 𝓤 (d < suc d) (Inv d)) (guardI 𝓤 (d < suc d) (Inv d) (lt-suc-self d)) (exI 𝓤 (λ (u : ℕ). guard 𝓤 (u < suc d) (Inv u)) d)))
 
     turns : (d : ℕ) → ent 𝓤 (Inv d) (Wp 𝓤 H C Λ En mir′.turn-1 (afterTurn 𝓤 H (Below d) Left))
-    turns d = exE 𝓤 (λ (k : ℕ). ex 𝓤 (λ (l : List ℕ). guard 𝓤 (Facts d k l) (⋆ 𝓤 H A (At k l)))) (λ k.
-        exE 𝓤 (λ (l : List ℕ). guard 𝓤 (Facts d k l) (⋆ 𝓤 H A (At k l))) (λ l. guardE 𝓤 (Facts d k l) (⋆ 𝓤 H A (At k l)) (λ f. turn-at d k l f)))
+    turns d = exE 𝓤 (λ (k : ℕ). ex 𝓤 (λ (l : List ℕ). guard 𝓤 (TurnFacts d k l) (⋆ 𝓤 H A (At k l)))) (λ k.
+        exE 𝓤 (λ (l : List ℕ). guard 𝓤 (TurnFacts d k l) (⋆ 𝓤 H A (At k l))) (λ l. guardE 𝓤 (TurnFacts d k l) (⋆ 𝓤 H A (At k l)) (λ f. turn-at d k l f)))
 
     loops : (l : List ℕ) → l ≡ begun r → ent 𝓤 (⋆ 𝓤 H A (At 0 l)) (Wp 𝓤 H C Λ En (loop mir′.turn-1) Left)
     loops l e =

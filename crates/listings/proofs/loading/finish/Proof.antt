@@ -2,11 +2,8 @@
 use borrow.Author.Needs.{needs}
 use mathlib.Core.Path.{refl}
 use native.Mathlib.Omega.{arith}
-use lib.ListN.{length}
 use Rattle.common.specs.Limits.{maxRows, maxColumns, maxSwitches, maxOutputs}
-use Rattle.listings.specs.Loading.{recordOf, fitted}
-use Rattle.listings.specs.Loader.{listed}
-use Rattle.listings.proofs.Steps.{ranged, cells-most}
+use Rattle.listings.proofs.Steps.{ranged}
 use Rattle.listings.proofs.Handing.{handed-as, fitted-short, handed-done}
 use Rattle.listings.proofs.loading.finish.Statement.{statement}
 use Rattle.listings.proofs.loading.finish.Tie as tie
@@ -15,15 +12,15 @@ mul-size : tie.Need-mul-size
 unfolding maxRows maxColumns
 mul-size c =
     let a = c .before .before .args in
-    let z = ranged (a .s) (c .before .before .pre) in
-    omega (arith, cells-most (a .s) z)
+    let z = ranged (a .s) (c .before .before .pre .0) in
+    omega (arith, z .cells-most)
 
 cast-size : tie.Need-cast-size
 unfolding maxRows maxColumns
 cast-size c =
     let a = c .before .before .args in
-    let z = ranged (a .s) (c .before .before .pre) in
-    omega (arith, cells-most (a .s) z)
+    let z = ranged (a .s) (c .before .before .pre .0) in
+    omega (arith, z .cells-most)
 
 refuse-requires : tie.Need-refuse-requires
 refuse-requires c κs = search needs
@@ -33,45 +30,41 @@ same-length c = search needs
 
 returns : tie.Need-returns
 returns c =
-    λ codes stands e h o.
-    let a = c .before .before .before .before .before .before .before .args in
-    handed-as (fitted (length (a .cells .now)) (listed (a .s) codes stands)) (length (a .cells .now))
-    (fitted-short (a .s) codes stands (length (a .cells .now)) (c .before .before .before .before .if1 .taken)) refl (c .before .before .refuse .ensures)
+    handed-as _ _ (fitted-short _ _ _ _ (c .before .before .before .before .if1 .taken)) refl (c .before .before .refuse .ensures)
 
 cast-t12 : tie.Need-cast-t12
 unfolding maxRows
 cast-t12 c =
     let a = c .before .before .before .before .args in
-    let z = ranged (a .s) (c .before .before .before .before .pre) in
+    let z = ranged (a .s) (c .before .before .before .before .pre .0) in
     omega (arith, z .rows-most)
 
 cast-t13 : tie.Need-cast-t13
 unfolding maxColumns
 cast-t13 c =
     let a = c .before .before .before .before .before .args in
-    let z = ranged (a .s) (c .before .before .before .before .before .pre) in
+    let z = ranged (a .s) (c .before .before .before .before .before .pre .0) in
     omega (arith, z .columns-most)
 
 cast-t14 : tie.Need-cast-t14
 unfolding maxSwitches
 cast-t14 c =
     let a = c .before .before .before .before .before .before .args in
-    let z = ranged (a .s) (c .before .before .before .before .before .before .pre) in
+    let z = ranged (a .s) (c .before .before .before .before .before .before .pre .0) in
     omega (arith, z .switches-most)
 
 cast-t15 : tie.Need-cast-t15
 unfolding maxOutputs
 cast-t15 c =
     let a = c .before .before .before .before .before .before .before .args in
-    let z = ranged (a .s) (c .before .before .before .before .before .before .before .pre) in
+    let z = ranged (a .s) (c .before .before .before .before .before .before .before .pre .0) in
     omega (arith, z .outputs-most)
 
 returns-2 : tie.Need-returns-2
-unfolding recordOf
+unfolding maxOutputs
 returns-2 c =
-    λ codes stands e h o.
-    let a = c .before .before .before .before .before .before .before .args in
-    rw (← o) (handed-done (a .s) codes stands (length (a .cells .now)) (a .cells .now) e h (c .before .before .before .before .if1 .left))
+    let start = c .before .before .before .before .before .before .before in
+    handed-done (start .args .s) (start .args .cells .now) (start .args .outs) (omega arith) (start .pre .1) (c .before .before .before .before .if1 .left)
 
 pub finish-spec : {M : Type 1} → statement M
 finish-spec =

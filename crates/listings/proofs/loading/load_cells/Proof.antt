@@ -7,7 +7,7 @@ use native.Mathlib.Omega.{arith}
 use lib.ListN.{length}
 use Rattle.common.specs.Limits.{maxRows, maxColumns, maxInput}
 use Rattle.forms.proofs.Cases.{not-cell}
-use Rattle.listings.proofs.Steps.{ranged, cells-most}
+use Rattle.listings.proofs.Steps.{ranged}
 use Rattle.listings.proofs.Reader.{Going, going-start, held, going-other, going-inside, going-fault, going-more, right}
 use Rattle.listings.proofs.loading.load_cells.Statement.{statement}
 use Rattle.listings.proofs.loading.load_cells.Tie as tie
@@ -47,14 +47,14 @@ returns-2 c =
     let l = c .before .before .before .before .before .before in
     let a = c .before .before .before .before .before .before .before .before .before .args in
     let z = ranged (a .s) (c .before .before .before .before .before .before .before .before .before .pre .0) in
-    going-fault (l .loop .inv) z _ (c .before .before .before .before .before .cell-line .ensures) (c .before .before .before .form .given .0 .0) (c .before .before .before .form .given .1) _ _ (c .before .cell-fault .ensures (l .loop .inv .codes) (l .loop .inv .counted)) (c .if1 .taken)
+    going-fault (l .loop .inv) z _ (c .before .before .before .before .before .cell-line .ensures) (c .before .before .before .form .given .0 .0) (c .before .before .before .form .given .1) _ _ (c .before .cell-fault .ensures) (c .if1 .taken)
 
 place-of-requires : tie.Need-place-of-requires Inv-loop μ-loop
 place-of-requires c κs =
     let l = c .before .before .before .before .before .before in
     let a = c .before .before .before .before .before .before .before .before .before .args in
     let z = ranged (a .s) (c .before .before .before .before .before .before .before .before .before .pre .0) in
-    let w = right (a .s) (l .loop .inv .codes) _ (c .before .before .before .form .given .0 .0) z (l .loop .inv .counted) (sym (c .before .cell-fault .ensures (l .loop .inv .codes) (l .loop .inv .counted)) ∙ c .if1 .left) in
+    let w = right (a .s) (l .loop .count) (c .before .before .before .form .given .0 .0) z (sym (c .before .cell-fault .ensures) ∙ c .if1 .left) in
     (w .row-small, w .column-small, z .columns-most)
 
 cast-store : tie.Need-cast-store Inv-loop μ-loop
@@ -62,7 +62,7 @@ cast-store c =
     let l = c .before .before .before .before .before .before .before .before .before in
     let a = c .before .before .before .before .before .before .before .before .before .before .before .before .args in
     let z = ranged (a .s) (c .before .before .before .before .before .before .before .before .before .before .before .before .pre .0) in
-    let w = right (a .s) (l .loop .inv .codes) _ (c .before .before .before .before .before .before .form .given .0 .0) z (l .loop .inv .counted) (sym (c .before .before .before .before .cell-fault .ensures (l .loop .inv .codes) (l .loop .inv .counted)) ∙ c .before .before .before .if1 .left) in
+    let w = right (a .s) (l .loop .count) (c .before .before .before .before .before .before .form .given .0 .0) z (sym (c .before .before .before .before .cell-fault .ensures) ∙ c .before .before .before .if1 .left) in
     let k = c .to-code .ensures in
     omega (arith, w .code-small)
 
@@ -72,9 +72,9 @@ add-count c =
     let l = c .before .before .before .before .before .before .before .before .before .before .before .before in
     let a = c .before .before .before .before .before .before .before .before .before .before .before .before .before .before .before .args in
     let z = ranged (a .s) (c .before .before .before .before .before .before .before .before .before .before .before .before .before .before .before .pre .0) in
-    let w = right (a .s) (l .loop .inv .codes) _ (c .before .before .before .before .before .before .before .before .before .form .given .0 .0) z (l .loop .inv .counted) (sym (c .before .before .before .before .before .before .before .cell-fault .ensures (l .loop .inv .codes) (l .loop .inv .counted)) ∙ c .before .before .before .before .before .before .if1 .left) in
+    let w = right (a .s) (l .loop .count) (c .before .before .before .before .before .before .before .before .before .form .given .0 .0) z (sym (c .before .before .before .before .before .before .before .cell-fault .ensures) ∙ c .before .before .before .before .before .before .if1 .left) in
     let k = c .before .before .before .before .before .place-of .ensures in
-    omega (arith, w .inside, cells-most (a .s) z)
+    omega (arith, w .inside, z .cells-most)
 
 add-number : tie.Need-add-number Inv-loop μ-loop
 unfolding maxRows maxColumns maxInput
@@ -82,7 +82,7 @@ add-number c =
     let l = c .before .before .before .before .before .before .before .before .before .before .before .before in
     let a = c .before .before .before .before .before .before .before .before .before .before .before .before .before .before .before .args in
     let z = ranged (a .s) (c .before .before .before .before .before .before .before .before .before .before .before .before .before .before .before .pre .0) in
-    omega (arith, l .loop .inv .lines, l .loop .inv .short, cells-most (a .s) z)
+    omega (arith, l .loop .inv .lines, l .loop .inv .short, z .cells-most)
 
 loop-less : tie.Need-loop-less Inv-loop μ-loop
 loop-less c =
@@ -96,7 +96,7 @@ loop-again c =
     let l = c .before .before .before .before .before .before .before .before .before .before .before .before in
     let a = c .before .before .before .before .before .before .before .before .before .before .before .before .before .before .before .args in
     let z = ranged (a .s) (c .before .before .before .before .before .before .before .before .before .before .before .before .before .before .before .pre .0) in
-    let h = sym (c .before .before .before .before .before .before .before .cell-fault .ensures (l .loop .inv .codes) (l .loop .inv .counted)) ∙ c .before .before .before .before .before .before .if1 .left in
+    let h = sym (c .before .before .before .before .before .before .before .cell-fault .ensures) ∙ c .before .before .before .before .before .before .if1 .left in
     going-more (l .loop .inv) z _ (c .before .before .before .before .before .before .before .before .before .before .before .cell-line .ensures) (c .before .before .before .before .before .before .before .before .before .form .given .0 .0) (c .before .before .before .before .before .before .before .before .before .form .given .1) _ _ _ h (c .before .before .before .before .before .place-of .ensures) (c .before .before .before .to-code .ensures) (c .before .before .store .ensures)
 
 pub load-cells-spec : {M : Type 1} → statement M

@@ -1,20 +1,21 @@
 -- `listings::loading::load_end` meets its contract: the last line by its form, and ground 10.
 use borrow.Author.Needs.{needs}
-use mathlib.Core.Path.{sym, ap, _∙_}
+use mathlib.Core.Path.{_≡_, sym, ap, _∙_}
 use native.Mathlib.Omega.{arith}
 use Rattle.common.specs.Limits.{maxRows, maxColumns, maxOutputs, maxInput}
+use Rattle.common.specs.Lists.{padded}
+use Rattle.common.proofs.Lists.{padded-full}
 use Rattle.forms.proofs.Sorts.{asEnd, ofKind, kindOf, valuesIn}
 use Rattle.forms.proofs.Cases.{not-end}
-use Rattle.listings.specs.Loader.{outputsOf}
+use Rattle.listings.specs.Loader.{rowsOnly, outputsOf}
 use Rattle.listings.proofs.Steps.{end-missing, end-more, end-last}
 use Rattle.listings.proofs.loading.load_end.Statement.{statement}
 use Rattle.listings.proofs.loading.load_end.Tie as tie
 
 returns : tie.Need-returns
 returns c =
-    λ x e.
     c .no-outputs .ensures
-    ∙ sym (ap outputsOf (end-missing x _ _ _ _ (c .before .before .before .end-line .ensures) (not-end _ (c .before .before .match .keys2)) _ (c .before .refusal-of .ensures)))
+    ∙ sym (ap outputsOf (end-missing _ _ _ _ _ (c .before .before .before .end-line .ensures) (not-end _ (c .before .before .match .keys2)) _ (c .before .refusal-of .ensures)))
 
 add-t10 : tie.Need-add-t10
 unfolding maxRows maxColumns maxOutputs maxInput
@@ -23,16 +24,16 @@ add-t10 c = omega arith
 returns-2 : tie.Need-returns-2
 unfolding ofKind kindOf valuesIn
 returns-2 c =
-    λ x e.
     let last = ap (λ g. asEnd g) (c .before .before .before .enum-told .given .1) in
-    c .no-outputs2 .ensures ∙ sym (ap outputsOf (end-more x _ _ _ _ (c .before .before .before .before .before .end-line .ensures) last (c .before .if1 .taken)))
+    c .no-outputs2 .ensures ∙ sym (ap outputsOf (end-more _ _ _ _ _ (c .before .before .before .before .before .end-line .ensures) last (c .before .if1 .taken)))
 
 returns-3 : tie.Need-returns-3
-unfolding ofKind kindOf valuesIn outputsOf
+unfolding ofKind kindOf valuesIn outputsOf maxOutputs
 returns-3 c =
-    λ x e.
     let last = ap (λ g. asEnd g) (c .before .before .enum-told .given .1) in
-    rw (← e) (sym (ap outputsOf (end-last x _ _ _ _ (c .before .before .before .before .end-line .ensures) last (c .if1 .left))))
+    let a = c .before .before .before .before .before .before .args in
+    let all : padded maxOutputs (a .outs) ≡ a .outs = padded-full maxOutputs (a .outs) (omega arith) in
+    sym (ap outputsOf (end-last (rowsOnly (a .outs)) _ _ _ _ (c .before .before .before .before .end-line .ensures) last (c .if1 .left)) ∙ rw all)
 
 pub load-end-spec : {M : Type 1} → statement M
 load-end-spec =

@@ -3,18 +3,20 @@
 use borrow.Author.Needs.{needs}
 use Prim.Native.Nat.{_-_}
 use mathlib.Core.Path.{sym, ap, _∙_}
+use mathlib.Core.List.{[]}
 use native.Mathlib.Omega.{arith}
 use Rattle.common.specs.Limits.{maxRows, maxColumns, maxOutputs, maxInput}
 use Rattle.forms.proofs.Cases.{not-out}
 use Rattle.listings.specs.Loader.{listed, outputsOf}
-use Rattle.listings.proofs.Steps.{ranged}
-use Rattle.listings.proofs.Stands.{Standing, standing-start, standing-end, standing-missing}
+use Rattle.listings.proofs.Kept.{rows-again}
+use Rattle.listings.proofs.Steps.{ranged, end-outs}
+use Rattle.listings.proofs.Stands.{StandsRead, standing-start, standing-end, standing-missing}
 use Rattle.listings.proofs.Stands.{standing-fault, target-small, standing-more}
 use Rattle.listings.proofs.loading.load_outs.Statement.{statement}
 use Rattle.listings.proofs.loading.load_outs.Tie as tie
 
 abbrev Inv-loop : tie.InvT-loop
-Inv-loop text at line s outs₀ next₀ number₀ j₀ outs next number j = Standing text s at line outs next number j
+Inv-loop text at line s outs₀ next₀ number₀ j₀ outs next number j = StandsRead text s at line outs next number j
 
 abbrev μ-loop : tie.MeasureT-loop
 μ-loop text at line s outs₀ next₀ number₀ j₀ outs next number j = s .outputs - j
@@ -24,16 +26,14 @@ loop-holds c = let a = c .before .args in standing-start (a .text .now) (a .s) (
 
 returns : tie.Need-returns Inv-loop μ-loop
 returns c =
-    λ codes.
     let l = c .before .before .before .before .before .before in
-    let e = standing-missing (l .loop .inv) (c .before .before .before .before .if1 .taken) _ (c .before .before .before .out-line .ensures) (not-out _ (c .before .before .match .keys2)) _ (c .before .refusal-of .ensures) codes in
+    let e = standing-missing (l .loop .inv) (c .before .before .before .before .if1 .taken) _ (c .before .before .before .out-line .ensures) (not-out _ (c .before .before .match .keys2)) _ (c .before .refusal-of .ensures) in
     c .no-outputs .ensures ∙ sym (ap outputsOf e)
 
 returns-2 : tie.Need-returns-2 Inv-loop μ-loop
 returns-2 c =
-    λ codes.
     let l = c .before .before .before .before .before .before .before .before .before in
-    let e = standing-fault (l .loop .inv) (c .before .before .before .before .before .before .before .if1 .taken) _ (c .before .before .before .before .before .before .out-line .ensures) (c .before .before .before .before .form .given .0 .0) (c .before .before .before .before .form .given .1) _ (c .before .before .stand-fault .ensures) (c .before .if2 .taken) codes in
+    let e = standing-fault (l .loop .inv) (c .before .before .before .before .before .before .before .if1 .taken) _ (c .before .before .before .before .before .before .out-line .ensures) (c .before .before .before .before .form .given .0 .0) (c .before .before .before .before .form .given .1) _ (c .before .before .stand-fault .ensures) (c .before .if2 .taken) in
     c .no-outputs2 .ensures ∙ sym (ap outputsOf e)
 
 cast-outs : tie.Need-cast-outs Inv-loop μ-loop
@@ -86,10 +86,10 @@ load-end-requires c κs =
 
 returns-3 : tie.Need-returns-3 Inv-loop μ-loop
 returns-3 c =
-    λ codes.
     let l = c .before .before .before in
-    c .load-end .ensures (listed (c .before .before .before .before .before .args .s) codes (l .loop .inv .stands)) (l .loop .inv .holds)
-    ∙ sym (ap outputsOf (standing-end (l .loop .inv) (c .before .if1 .left) codes))
+    c .load-end .ensures
+    ∙ end-outs _ (listed (c .before .before .before .before .before .args .s) [] (l .loop .inv .stands)) _ _ (rows-again maxOutputs (l .loop .inv .stands) (l .loop .inv .holds))
+    ∙ sym (ap outputsOf (standing-end (l .loop .inv) (c .before .if1 .left)))
 
 pub load-outs-spec : {M : Type 1} → statement M
 load-outs-spec =

@@ -3,7 +3,7 @@ use borrow.Author.Needs.{needs}
 use Prim.Native.Nat.{ℕ, _*_, _-_, _≤_}
 use mathlib.Core.Path.{_≡_, ap}
 use native.Mathlib.Omega.{arith}
-use Rattle.common.specs.Limits.{maxRows, maxColumns}
+use Rattle.common.specs.Limits.{maxRows}
 use Rattle.forms.proofs.Parts.{Going, going-start, going-part, going-as, going-end}
 use Rattle.listings.specs.Printing.{cellText}
 use Rattle.listings.proofs.Text.{row-inside, cell-text-none, cell-text-from, cell-text-row}

@@ -1,9 +1,7 @@
 -- `listings::printing::write_outs` meets its contract: the lines of the outputs from output j on are still to be written.
 use borrow.Author.Needs.{needs}
 use Prim.Native.Nat.{_-_, _≤_}
-use mathlib.Core.Path.{_≡_, refl}
 use native.Mathlib.Omega.{arith}
-use lib.ListN.{length}
 use Rattle.common.specs.Limits.{maxOutputs}
 use Rattle.forms.proofs.Parts.{Going, going-start, going-part, going-end}
 use Rattle.listings.specs.Printing.{outText}

@@ -7,7 +7,7 @@ use native.Mathlib.Omega.{arith}
 use Rattle.common.specs.Limits.{maxRows, maxColumns}
 use Rattle.forms.proofs.Parts.{Going, going-start, going-part, going-as, going-end}
 use Rattle.listings.specs.Printing.{cellText}
-use Rattle.listings.proofs.Text.{cell-text-none, cell-text-from, cell-text-more, cell-text-off, place-small}
+use Rattle.listings.proofs.Text.{cell-text-none, cell-text-from, cell-text-more, cell-text-off, cell-text-pass, place-small}
 use Rattle.listings.proofs.printing.write_row.Statement.{statement}
 use Rattle.listings.proofs.printing.write_row.Tie as tie
 
@@ -24,10 +24,10 @@ mul-start c = let a = c .before .before .args in omega (arith, place-small (a .r
 loop-holds : tie.Need-loop-holds Inv-loop μ-loop
 loop-holds c =
     let a = c .before .before .before .args in
-    let passed = c .past-off .ensures in
     let row = a .r * a .columns in
+    let passed = cell-text-pass (a .cells .now) row (a .columns) 0 (omega arith) (a .columns) _ (omega arith) (c .past-off .ensures) in
     let begun = cell-text-from (a .cells .now) (a .columns) row (row + 0) (row + a .columns) (omega arith) in
-    (going-as (going-start (a .out .now) (a .at) _) (begun ∙ passed .2 (a .columns)), passed .1)
+    (going-as (going-start (a .out .now) (a .at) _) (begun ∙ passed .0), passed .2)
 
 add-c : tie.Need-add-c Inv-loop μ-loop
 unfolding maxColumns
@@ -58,9 +58,9 @@ loop-again-2 c =
     let read = cell .before in
     let l = read .before .before .before .before .before in
     let a = l .before .before .before .before .args in
-    let passed = c .past-off2 .ensures in
+    let passed = cell-text-pass (a .cells .now) (a .r * a .columns) (a .columns) (l .loop .c + 1) (omega arith) (a .columns) _ (omega arith) (c .past-off2 .ensures) in
     let more = cell-text-more (a .cells .now) (a .columns) (a .r) (l .loop .c) (read .from-code .result) (read .from-code .ensures) (omega arith) (omega arith) in
-    (going-as (going-part (l .loop .inv .0) more (cell .write-cell .ensures)) (passed .2 (a .columns)), passed .1)
+    (going-as (going-part (l .loop .inv .0) more (cell .write-cell .ensures)) (passed .0), passed .2)
 
 returns : tie.Need-returns Inv-loop μ-loop
 returns c =

@@ -1,9 +1,7 @@
 -- `placement::mapping::place` meets its contract.
 use borrow.Author.Needs.{needs}
 use mathlib.Core.Path.{refl, _∙_}
-use native.Mathlib.Omega.{arith}
-use Rattle.common.specs.Limits.{maxRows, maxColumns}
-use Rattle.placement.proofs.Maps.{nodes-fit, outs-fit, names-fit, height-fits, head-right, cells-in, cells-right, size-few, size-fits, place-short, place-done}
+use Rattle.placement.proofs.Maps.{nodes-fit, outs-fit, names-fit, height-fits, head-right, cells-in, cells-right, size-fits, place-short, place-done}
 use Rattle.placement.proofs.mapping.place.Statement.{statement}
 use Rattle.placement.proofs.mapping.place.Tie as tie
 
@@ -26,21 +24,6 @@ head-of-requires c κs =
     let numbers = c .before .before .before .before .before .number-wires .ensures in
     ((outs-fit _ _ held, held .outs, height-fits _ _ held _ numbers), names-fit _ _ held)
 
-cast-size : tie.Need-cast-size
-cast-size c = search needs
-
-cast-size-2 : tie.Need-cast-size-2
-cast-size-2 c = search needs
-
-mul-size : tie.Need-mul-size
-unfolding maxRows maxColumns
-mul-size c =
-    let start = c .before .before .before .before .before .before .before .before .before .before .before .before in
-    let held = start .pre .0 in
-    let numbers = c .before .before .before .before .before .before .before .before .number-wires .ensures in
-    let head = c .before .before .head-of .ensures ∙ head-right _ _ held _ numbers in
-    record { fits = omega (arith, size-few _ _ held _ head) }
-
 lacking-requires : tie.Need-lacking-requires
 lacking-requires c κs = search needs
 
@@ -49,18 +32,18 @@ refuse-requires c κs = search needs
 
 returns : tie.Need-returns
 returns c =
-    let start = c .before .before .before .before .before .before .before .before .before .before .before .before .before .before .before in
+    let start = c .before .before .before .before .before .before .before .before .before .before .before .before .before in
     let held = start .pre .0 in
-    let numbers = c .before .before .before .before .before .before .before .before .before .before .before .number-wires .ensures in
-    let head = c .before .before .before .before .before .head-of .ensures ∙ head-right _ _ held _ numbers in
+    let numbers = c .before .before .before .before .before .before .before .before .before .number-wires .ensures in
+    let head = c .before .before .before .head-of .ensures ∙ head-right _ _ held _ numbers in
     place-short _ _ held _ head _ _ (c .before .before .lacking .ensures) _ _ (c .before .if1 .taken) (c .refuse .ensures) (start .pre .1)
 
 all-cells-requires : tie.Need-all-cells-requires
 all-cells-requires c κs =
-    let start = c .before .before .before .before .before .before .before .before .before .before .before .before .before .before .before .before .before in
+    let start = c .before .before .before .before .before .before .before .before .before .before .before .before .before .before .before in
     let held = start .pre .0 in
-    let numbers = c .before .before .before .before .before .before .before .before .before .before .before .before .before .number-wires .ensures in
-    let head = c .before .before .before .before .before .before .before .head-of .ensures ∙ head-right _ _ held _ numbers in
+    let numbers = c .before .before .before .before .before .before .before .before .before .before .before .number-wires .ensures in
+    let head = c .before .before .before .before .before .head-of .ensures ∙ head-right _ _ held _ numbers in
     let fits = size-fits _ _ held _ head _ _ (c .before .before .before .before .lacking .ensures) (c .before .before .before .if1 .left) in
     (nodes-fit _ _ held, cells-in _ _ held _ numbers _ fits)
 
@@ -69,10 +52,10 @@ same-length c = search needs
 
 returns-2 : tie.Need-returns-2
 returns-2 c =
-    let start = c .before .before .before .before .before .before .before .before .before .before .before .before .before .before .before .before .before .before .before .before in
+    let start = c .before .before .before .before .before .before .before .before .before .before .before .before .before .before .before .before .before .before in
     let held = start .pre .0 in
-    let numbers = c .before .before .before .before .before .before .before .before .before .before .before .before .before .before .before .before .number-wires .ensures in
-    let head = c .before .before .before .before .before .before .before .before .before .before .head-of .ensures ∙ head-right _ _ held _ numbers in
+    let numbers = c .before .before .before .before .before .before .before .before .before .before .before .before .before .before .number-wires .ensures in
+    let head = c .before .before .before .before .before .before .before .before .head-of .ensures ∙ head-right _ _ held _ numbers in
     let fits = size-fits _ _ held _ head _ _ (c .before .before .before .before .before .before .before .lacking .ensures) (c .before .before .before .before .before .before .if1 .left) in
     let right = cells-right _ _ held _ numbers _ fits _ (start .pre .1) in
     place-done _ _ held _ head _ _ (c .before .before .before .before .before .before .before .lacking .ensures) _ _ (c .before .before .before .before .before .before .if1 .left) refl (c .before .before .all-cells .ensures ∙ right)
@@ -85,9 +68,6 @@ place-spec =
     number-wires-requires
     cast-head-of
     head-of-requires
-    cast-size
-    cast-size-2
-    mul-size
     lacking-requires
     refuse-requires
     returns

@@ -1,12 +1,13 @@
 -- `programs::setting::no_set` meets its contract.
 use mathlib.Core.Path.{refl}
 use Rattle.common.specs.Limits.{maxSwitches}
-use Rattle.programs.specs.Setting.{noSet}
+use Rattle.common.specs.Outcome.{refusalOf, numberOf, lineOf, valueOf, bufferOf}
+use Rattle.programs.specs.Setting.{setOf}
 use Rattle.programs.proofs.setting.no_set.Statement.{statement}
 use Rattle.programs.proofs.setting.no_set.Tie as tie
 
 returns : tie.Need-returns
-unfolding noSet maxSwitches
+unfolding setOf maxSwitches refusalOf numberOf lineOf valueOf bufferOf
 returns c =
     refl
 

@@ -8,8 +8,8 @@ use Rattle.common.proofs.Lists.{getD-padded-any}
 use Rattle.cells.specs.declared.Crossbar.{Crossbar}
 use Rattle.cells.specs.Conducts.{joins}
 use Rattle.cells.specs.Record.{size, sound}
 use Rattle.conduction.specs.Light.{light, litBy, joined}
-use Rattle.listings.proofs.RoundTrip.{sound-zeros}
+use Rattle.cells.proofs.Slices.{sound-zeros}
 
 module _ (x : Crossbar) (cells : List ℕ) (n : ℕ) where
   pub joined-same : (setting : List ℕ) → joined x (padded n cells) setting ≡ joined x cells setting
