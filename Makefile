@@ -74,7 +74,7 @@ shared: proved
 	    -Wl,--whole-archive $(archive) -Wl,--no-whole-archive -o target/lib/$(shared)
 
 draw: tool
-	target/tools/crossbar draw --set '$(SET)' $(JOB) > target/drawing.svg
+	target/tools/crossbar draw --set '$(SET)' '$(JOB)' > target/drawing.svg || { rm -f target/drawing.svg; exit 1; }
 
 picture: tool
 	target/tools/crossbar draw --set 10 --title 'Half adder: output 0 is the sum, output 1 the carry' \

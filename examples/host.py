@@ -2,8 +2,8 @@
 
     python3 examples/host.py JOB [LIBRARY]
 
-LIBRARY is the shared library, libcrossbar.so of the system without it. The exit status is 1 where a call refuses or a reading is not
-the walk's value.
+LIBRARY is the shared library, libcrossbar.so of the system without it. The exit status is 1 where a file is not there, a call refuses,
+there are more than 16 switches, or a reading is not the walk's value.
 """
 import ctypes
 import itertools
@@ -12,6 +12,9 @@ import sys
 RECORD_BYTES = 72
 MAX_CELLS = 128 * 128
 MAX_WIRES = 128 + 128
+
+# The most switches for which every setting is tried.
+MAX_TRIED = 16
 
 
 def library(path):
@@ -52,6 +55,8 @@ def show(lib, job):
     wires = ctypes.create_string_buffer(MAX_WIRES)
     value("map", lib.crossbar_map(*given(job), *lent(record), *lent(cells)))
     switches, outputs = number_at(record, 2), number_at(record, 3)
+    if switches > MAX_TRIED:
+        raise ValueError(f"{switches} switches have too many settings to try them all")
     same = True
     for setting in itertools.product((0, 1), repeat=switches):
         rounds = value("light", lib.crossbar_light(*given(record.raw), *given(cells.raw), *given(setting), *lent(wires)))
@@ -65,9 +70,9 @@ def show(lib, job):
 def main():
     if len(sys.argv) not in (2, 3):
         sys.exit("usage: host.py JOB [LIBRARY]")
-    with open(sys.argv[1], "rb") as file:
-        job = file.read()
     try:
+        with open(sys.argv[1], "rb") as file:
+            job = file.read()
         same = show(library(sys.argv[2] if len(sys.argv) == 3 else "libcrossbar.so"), job)
     except (OSError, ValueError) as error:
         sys.exit(f"host.py: {error}")

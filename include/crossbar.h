@@ -32,9 +32,9 @@ extern "C" {
  * text, a record or an answer means something else than before. The second rises where something is added.
  */
 #define CROSSBAR_VERSION_MAJOR 1
-#define CROSSBAR_VERSION_MINOR 1
+#define CROSSBAR_VERSION_MINOR 2
 #define CROSSBAR_VERSION_PATCH 0
-#define CROSSBAR_VERSION "1.1.0"
+#define CROSSBAR_VERSION "1.2.0"
 
 /* Limits. */
 #define CROSSBAR_MAX_ROWS 128

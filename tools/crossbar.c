@@ -10,9 +10,10 @@
 /* The options that take a value, as bits. */
 enum { SET = 1, OUTPUT = 2, TITLE = 4 };
 
-/* A subcommand: its name, the options and the number of words that it takes, its usage, and what it does. */
+/* A subcommand: its name, what its file may be, the options and the number of words that it takes, its usage, and what it does. */
 struct command {
     const char *name;
+    unsigned takes;
     unsigned options;
     size_t most_words;
     const char *usage;
@@ -22,15 +23,18 @@ struct command {
 
 /* A new service gets a line here, a function in a file of its own, and an entry in man/crossbar.1. */
 static const struct command commands[] = {
-    {"map", 0, 1, "[JOB]", "print the listing of a job's crossbar", run_map},
-    {"walk", SET | OUTPUT, 1, "[--set FIGURES] [--output J] [JOB]", "the diagram's value for each output, or for output J", run_walk},
-    {"light", SET, 1, "[--set FIGURES] [JOB or LISTING]", "the rounds, the lit wires and what each output reads", run_light},
-    {"print", 0, 1, "[JOB or LISTING]", "print the listing of a crossbar", run_print},
-    {"load", 0, 1, "[JOB or LISTING]", "check a listing and say its sizes", run_load},
-    {"table", 0, 1, "[JOB]", "every setting's readings beside the walk's values, up to 16 switches", run_table},
-    {"draw", SET | TITLE, 1, "[--set FIGURES] [--title WORDS] [JOB or LISTING]", "draw a crossbar as SVG, with its lit wires", run_draw},
-    {"dot", 0, 1, "[JOB]", "write a job's diagram for Graphviz", run_dot},
-    {"explain", 0, 1, "[NUMBER]", "what a number of refusal means and what to do about it", explain},
+    {"map", TAKES_JOB, 0, 1, "[JOB]", "print the listing of a job's crossbar", run_map},
+    {"walk", TAKES_JOB, SET | OUTPUT, 1, "[--set FIGURES] [--output J] [JOB]", "the diagram's value for each output, or for output J",
+     run_walk},
+    {"light", TAKES_JOB | TAKES_LISTING, SET, 1, "[--set FIGURES] [JOB or LISTING]",
+     "the rounds, the lit wires and what each output reads", run_light},
+    {"print", TAKES_JOB | TAKES_LISTING, 0, 1, "[JOB or LISTING]", "print the listing of a crossbar", run_print},
+    {"load", TAKES_LISTING, 0, 1, "[LISTING]", "check a listing and say its sizes", run_load},
+    {"table", TAKES_JOB, 0, 1, "[JOB]", "every setting's readings beside the walk's values, up to 16 switches", run_table},
+    {"draw", TAKES_JOB | TAKES_LISTING, SET | TITLE, 1, "[--set FIGURES] [--title WORDS] [JOB or LISTING]",
+     "draw a crossbar as SVG, with its lit wires", run_draw},
+    {"dot", TAKES_JOB, 0, 1, "[JOB]", "write a job's diagram for Graphviz", run_dot},
+    {"explain", 0, 0, 1, "[NUMBER]", "what a number of refusal means and what to do about it", explain},
 };
 #define COMMANDS (sizeof commands / sizeof commands[0])
 
@@ -50,12 +54,12 @@ static void help(void)
 {
     size_t i;
 
-    printf("usage: crossbar SUBCOMMAND [OPTION..] [FILE]\n\n");
+    printf("usage: crossbar SUBCOMMAND [OPTION..] [FILE]\n       crossbar --help, crossbar --version\n\n");
     for (i = 0; i < COMMANDS; i++)
         printf("  %-8s %s\n           %s\n", commands[i].name, commands[i].usage, commands[i].summary);
     printf("\n"
            "FILE may be - or left out: then standard input is read. --set FIGURES gives each switch 0 or 1, switch 0 first, as 10.\n"
-           "A file that begins with (job is mapped first where a listing is taken. --help and --version tell of the command.\n"
+           "Where a job or a listing is taken, a file that begins with (job is mapped first. SUBCOMMAND --help tells of one.\n"
            "Exit status: 0 done; 1 refused, with the reason on standard error; 2 bad usage, or input or output failed.\n"
            "The calls behind map, walk, light, print and load are proved; this command is tested and not proved.\n");
 }
@@ -88,7 +92,9 @@ static int read_words(const struct command *command, struct request *request, in
     int i;
 
     for (i = 0; i < count; i++) {
-        if (words[i][0] == '-' && words[i][1] != '\0') {
+        if (strcmp(words[i], "--help") == 0) {
+            request->help = 1;
+        } else if (words[i][0] == '-' && words[i][1] != '\0') {
             const char **place = option_place(command, request, words[i]);
             if (place == NULL)
                 return usage_error(command->name, words[i], "no such option here");
@@ -106,7 +112,7 @@ static int read_words(const struct command *command, struct request *request, in
 
 static int run(int count, char **words)
 {
-    struct request request = {NULL, {NULL, NULL}, 0, NULL, NULL, NULL};
+    struct request request = {NULL, 0, {NULL, NULL}, 0, NULL, NULL, NULL, 0};
     const struct command *command;
     int status;
 
@@ -125,13 +131,16 @@ static int run(int count, char **words)
     command = find_command(words[1]);
     if (command == NULL)
         return usage_error(NULL, words[1], "no such subcommand");
-    if (count == 3 && strcmp(words[2], "--help") == 0) {
+    request.command = command->name;
+    request.takes = command->takes;
+    status = read_words(command, &request, count - 2, words + 2);
+    if (status != DONE)
+        return status;
+    if (request.help) {
         help_command(command);
         return DONE;
     }
-    request.command = command->name;
-    status = read_words(command, &request, count - 2, words + 2);
-    return status == DONE ? command->run(&request) : status;
+    return command->run(&request);
 }
 
 int main(int count, char **words)

@@ -1,4 +1,4 @@
-/* The numbers of refusal in words, and what to do about each. docs/TERMS.md has the same words; a test compares them. */
+/* The numbers of refusal in words, and what to do about each. docs/TERMS.md says in the same words what to do; a test compares them. */
 #include "tool.h"
 
 #include <ctype.h>
@@ -14,9 +14,10 @@ struct ground {
 /* In the order of the numbers, from 1 on. */
 static const struct ground grounds[] = {
     {"The line is missing or not the form due.", "that line", "map, walk, load",
-     "Write the line as docs/FORMATS.md and crossbar(5) have it: one blank between items and none elsewhere, figures without a leading "
-     "zero, small letters, a line feed at the end of every line. Look for a tab, for a carriage return before the line feed and for a "
-     "missing last line feed, and count that there are N node lines and K output lines."},
+     "Write the line as docs/FORMATS.md and crossbar(5) have it: one blank between items and none elsewhere, figures of at most 5 digits "
+     "without a leading zero, small letters, a line feed at the end of every line. Look for a tab, for a carriage return before the line "
+     "feed and for a missing last line feed, and count that there are N node lines and K output lines. A set line has at most 64 "
+     "figures, each 0 or 1."},
     {"A figure of the first line is outside its range.", "that line", "map, walk, load",
      "Bring the figure into its range: V 0 to 64, N 0 to 254, K 1 to 32; in a listing also R 1 to 128 and C 0 to 128. Divide a larger "
      "job into several jobs, with some of the outputs in each."},
@@ -35,23 +36,27 @@ static const struct ground grounds[] = {
      "Leave the later node out, let its parents and outputs name the earlier one, and number the nodes again."},
     {"Terminal 1 or an output's node is labelled v, or a node and a child of it other than 0 are both h or both v.",
      "the line of (one T), the output's line, or the parent's line", "map, walk",
-     "Change the label of one of the two to the other letter, or to b: b always passes this condition and costs one wire more."},
+     "Label terminal 1 and each node that an output names h or b. Where a node and its child have the same letter, change one of the two "
+     "to the other letter, or to b: b always passes this condition and costs one wire more."},
     {"Bytes follow (end).", "the line after it", "map, walk, load", "Remove everything after the line (end), an empty line too."},
     {"There would be more than 128 rows or more than 128 columns.", "the line of (end)", "map, walk",
      "Use fewer b labels, or exchange h and v labels where only one of the two counts is too high, or divide the outputs over several "
      "jobs."},
     {"In a listing: a cell is outside R and C, not after the cell before it, or names a switch not below V; or an output row is not "
      "below R. In a record: a size out of range, a cell slice shorter than R times C or with a byte past it other than 0, a code above "
-     "1 + 2 times V, an output row not below R, or an unused output row other than 0.",
+     "1 + 2 times V, an output row not below R, or an unused output row other than 0; from C also a record slice shorter than a record or "
+     "with a byte past it other than 0.",
      "that line of a listing; 0 for a record", "load; light and print",
-     "Have the listing made again by map or print and do not change it by hand. From C, hand on the record and the cells as map or load "
-     "left them, in a slice of their own with zeros past them."},
+     "In a listing, write the cells row by row and in a row by rising column, each place once, with rows and output rows below R, columns "
+     "below C and switches below V; or have it made again by map or print. From C, hand on the record and the cells as map or load left "
+     "them, in a slice of their own with zeros past them."},
     {"The setting is not V bytes of 0 or 1, or walk's output number is not below K.", "0", "walk, light",
      "Give one figure 0 or 1 for each of the V switches, switch 0 first, and an output number from 0 to K - 1."},
     {"An output buffer is shorter than the answer. In the two programs: the input is longer than 65,535 bytes.", "0",
      "map, light, print, load; the two programs",
      "From C, lend CROSSBAR_RECORD_BYTES for a record and CROSSBAR_MAX_CELLS, CROSSBAR_MAX_WIRES and CROSSBAR_MAX_LISTING for the "
-     "rest, which is always enough. For a longer input take the command crossbar or the C calls, which have no such limit."},
+     "rest, which is always enough. With the two programs: no accepted job is that long, so look for what else is in the file; for a "
+     "longer listing take the command crossbar or the C calls."},
     {"After R + C - 1 rounds a further round would still add a wire.", "0", "light",
      "It is proved that this never comes. Where it is seen, the program or the machine is not what was proved: check the file and the "
      "machine, and tell the seller."},

@@ -39,10 +39,12 @@ static int begins_with(const struct text *text, const char *words)
 }
 
 /* Where the first line is refused as a whole, perhaps the file is of another kind than the subcommand takes. */
-static void say_kind(const struct text *text)
+static void say_kind(const struct request *request, const struct text *text)
 {
-    if (begins_with(text, "(crossbar "))
+    if ((request->takes & TAKES_LISTING) == 0 && begins_with(text, "(crossbar "))
         fprintf(stderr, "This file is a listing; a job is due here.\n");
+    if ((request->takes & TAKES_JOB) == 0 && begins_with(text, "(job "))
+        fprintf(stderr, "This file is a job; a listing is due here, as crossbar map prints it.\n");
     if (begins_with(text, "(set"))
         fprintf(stderr, "This file begins with a set line; here a setting is given by --set, and the file is the listing alone.\n");
 }
@@ -59,7 +61,9 @@ int refused(const struct request *request, const struct text *text, uint64_t ans
         fprintf(stderr, "\n");
     }
     if (CROSSBAR_NUMBER(answer) == CROSSBAR_NOT_THE_FORM && line == 1)
-        say_kind(text);
+        say_kind(request, text);
+    if (CROSSBAR_NUMBER(answer) == CROSSBAR_SETTING && request->set == NULL)
+        fprintf(stderr, "No --set was given; it gives the setting, as --set 10.\n");
     explain_number(stderr, CROSSBAR_NUMBER(answer));
     return REFUSED;
 }
@@ -166,7 +170,10 @@ int map_text(const struct request *request, const struct text *text, struct cros
     return CROSSBAR_NUMBER(answer) == 0 ? DONE : refused(request, text, answer);
 }
 
-/* The crossbar of a file: of its listing, or of its job where it begins as one. The text is freed by the caller where this is DONE. */
+/*
+ * The crossbar of a file: of its listing, or of its job where it begins as one and the subcommand takes jobs. The text is freed by the
+ * caller where this is DONE.
+ */
 int take_crossbar(const struct request *request, struct text *text, struct crossbar *crossbar)
 {
     uint64_t answer;
@@ -174,7 +181,7 @@ int take_crossbar(const struct request *request, struct text *text, struct cross
 
     if (status != DONE)
         return status;
-    if (begins_with(text, "(job")) {
+    if ((request->takes & TAKES_JOB) != 0 && begins_with(text, "(job")) {
         status = map_text(request, text, crossbar);
     } else {
         answer = crossbar_load(text->bytes, text->length, crossbar->record, sizeof crossbar->record, crossbar->cells,

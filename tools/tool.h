@@ -15,14 +15,22 @@ enum { DONE = 0, REFUSED = 1, FAILED = 2 };
 /* The most files that a subcommand takes. */
 #define MAX_FILES 2
 
-/* What was asked for: the subcommand's name, the words that are no options, and the options' values, NULL where not given. */
+/* What a subcommand's file may be, as bits. */
+enum { TAKES_JOB = 1, TAKES_LISTING = 2 };
+
+/*
+ * What was asked for: the subcommand's name, what its file may be, the words that are no options, the options' values, NULL where not
+ * given, and whether --help is among the words.
+ */
 struct request {
     const char *command;
+    unsigned takes;
     const char *words[MAX_FILES];
     size_t word_count;
     const char *set;
     const char *output;
     const char *title;
+    int help;
 };
 
 /* A whole file: its name for messages, its bytes with a NUL after them, and their number. */
