@@ -3,16 +3,17 @@ use Prim.Native.Nat.{ℕ, _+_, _*_, _≤_, _<_}
 use mathlib.Core.Path.{_≡_}
 use mathlib.Core.List.{List, [], _∷_}
 use lib.ListN.{length, getD, set}
-use lib.Dec.{eqb}
+use lib.Dec.{eqb, ltb}
 use mathlib.Core.Bool.{Bool, true, false, _||_}
-use Rattle.common.specs.Limits.{maxIds}
+use Rattle.common.specs.Limits.{maxIds, maxRows, maxColumns}
 use Rattle.common.specs.Lists.{tab, any-of}
 use Rattle.common.specs.Outcome.{_when_, lowest}
 use Rattle.diagram.specs.declared.Node.{Node}
 use Rattle.diagram.specs.declared.NodeValues.{NodeValues}
 use Rattle.diagram.specs.Diagram.{Diagram, terminal, idCount, labelAt}
 use Rattle.diagram.specs.declared.WireTable.{WireTable}
-use Rattle.diagram.specs.Wires.{rowOf, columnOf, rowOwners, columnCount}
+use Rattle.diagram.specs.declared.Dimensions.{Dimensions}
+use Rattle.diagram.specs.Wires.{rowOf, columnOf, rowCount, columnCount}
 use Rattle.diagram.specs.Faults.{unordered, sameTest, alike}
 
 -- how many numbers the table has
@@ -59,12 +60,17 @@ pub data Ends (child : ℕ → ℕ) : ℕ → ℕ → Type 0 where
 unfoldable pub nodeGiven : NodeValues → Node
 nodeGiven v = record { x = v .x; l = v .l; h = v .h; t = v .t }
 
--- the numbers of the rows and of the columns by id, and how many rows and columns ids have
+-- the numbers of the rows and of the columns by id
 pub record WireNumbers (d : Diagram) (w : WireTable) : Type 0 where
   pub row : (i : ℕ) → i < idCount d → getD (w .rows) i 0 ≡ rowOf d i
   pub column : (i : ℕ) → i < idCount d → getD (w .columns) i 0 ≡ columnOf d i
-  pub height : w .height ≡ length (rowOwners d)
-  pub width : w .width ≡ columnCount d
+
+-- R and C, and whether one of them "exceeds 128"
+unfoldable pub dimensionsOf : Diagram → Dimensions
+dimensionsOf d = record { rows = rowCount d; columns = columnCount d }
+
+unfoldable pub exceeds : Dimensions → Bool
+exceeds size = ltb maxRows (size .rows) || ltb maxColumns (size .columns)
 
 -- grounds 6 to 9 of a node's line
 unfoldable pub laterFault : Diagram → Node → ℕ

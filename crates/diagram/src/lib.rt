@@ -25,10 +25,14 @@ pub struct NodeValues {
     pub t: u16,
 }
 
-// The number of each id's row and column, by id, and how many rows and columns ids have.
+// The number of each id's row and column, by id.
 pub struct WireTable {
     pub rows: [u16; MAX_IDS],
     pub columns: [u16; MAX_IDS],
-    pub height: u16,
-    pub width: u16,
+}
+
+// R and C.
+pub struct Dimensions {
+    pub rows: u16,
+    pub columns: u16,
 }

@@ -1,4 +1,5 @@
-// Document 01, "Placement" and ground 11: the numbers of the wires by id, and how many rows and columns there are.
+// Document 01, "Placement" and ground 11: the numbers of the wires by id, and R and C.
+use super::Dimensions;
 use super::WireTable;
 use super::table::TABLE;
 use super::table::entry_at;
@@ -15,8 +16,8 @@ ghost use Prim.Native.Nat.{_≤_};
 ghost use lib.ListN.{length, take};
 ghost use Rattle.common.specs.Labels.{labelH, labelV};
 ghost use Rattle.common.specs.Limits.{maxNodes, maxOutputs};
-ghost use Rattle.diagram.specs.Table.{tabled, Terminals, WireNumbers};
-ghost use Rattle.diagram.specs.Wires.{labelHas, anyZero, tooLarge};
+ghost use Rattle.diagram.specs.Table.{tabled, Terminals, WireNumbers, dimensionsOf, exceeds};
+ghost use Rattle.diagram.specs.Wires.{labelHas, anyZero};
 
 // Labels `h` and `b` have a row.
 pub fn has_row(label: u16) -> bool
@@ -51,12 +52,7 @@ pub fn number_wires(table: &[u16; TABLE], n: usize) -> WireTable
         width += has_column(entry.t) as u16;
         id += 1;
     }
-    WireTable {
-        rows,
-        columns,
-        height,
-        width,
-    }
+    WireTable { rows, columns }
 }
 
 // Whether one of the first k outputs names 0.
@@ -74,16 +70,27 @@ pub fn names_zero(outs: &[u16; MAX_OUTPUTS], k: usize) -> bool
     false
 }
 
-// Ground 11, of n nodes and k outputs: "R or C exceeds 128".
-pub fn too_large(table: &[u16; TABLE], outs: &[u16; MAX_OUTPUTS], n: usize, k: usize) -> bool
+// R and C of n nodes and k outputs.
+pub fn dimensions(table: &[u16; TABLE], outs: &[u16; MAX_OUTPUTS], n: usize, k: usize) -> Dimensions
     requires { ⌜ (n ≤ maxNodes) × (k ≤ maxOutputs) × (k ≤ length (now outs)) ⌝ }
     requires { ⌜ Terminals (now table) ⌝ }
-    ensures { λ r. ⌜ r ≡ tooLarge (tabled (now (table .entry)) n (take k (now (outs .entry)))) ⌝ }
+    ensures { λ r. ⌜ r ≡ dimensionsOf (tabled (now (table .entry)) n (take k (now (outs .entry)))) ⌝ }
 {
-    let wires = number_wires(table, n);
-    let rows = wires.height as usize + names_zero(outs, k) as usize;
-    if MAX_ROWS < rows {
-        return true;
+    let mut rows = names_zero(outs, k) as u16;
+    let mut columns: u16 = 0;
+    let mut i = 0;
+    while i < n + 2 {
+        let entry = entry_at(table, i);
+        rows += has_row(entry.t) as u16;
+        columns += has_column(entry.t) as u16;
+        i += 1;
     }
-    MAX_COLUMNS < wires.width as usize
+    Dimensions { rows, columns }
+}
+
+// Ground 11: "R or C exceeds 128".
+pub fn too_large(size: Dimensions) -> bool
+    ensures { λ r. ⌜ r ≡ exceeds size ⌝ }
+{
+    MAX_ROWS < size.rows as usize || MAX_COLUMNS < size.columns as usize
 }

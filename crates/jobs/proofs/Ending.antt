@@ -17,8 +17,10 @@ use Rattle.forms.specs.Forms.{outForm}
 use Rattle.diagram.specs.Diagram.{Diagram, idCount, withOut, entries, entry}
 use Rattle.diagram.specs.Faults.{outFault}
 use Rattle.diagram.specs.Wires.{tooLarge}
-use Rattle.diagram.specs.Table.{entryIn, tabled}
+use Rattle.diagram.specs.declared.Dimensions.{Dimensions}
+use Rattle.diagram.specs.Table.{entryIn, tabled, dimensionsOf, exceeds}
 use Rattle.diagram.proofs.TableLaws.{tabled-out}
+use Rattle.diagram.proofs.Owners.{exceeds-large}
 use Rattle.jobs.specs.declared.OutLine.{OutLine}
 use Rattle.jobs.specs.declared.OutsRead.{OutsRead}
 use Rattle.jobs.specs.declared.JobRead.{JobRead}
@@ -148,22 +150,27 @@ module _ (s : List ℕ) (at line n k : ℕ) (t outs : List ℕ) (e : Refusal) (e
     ended : readEnd d line (linesOf (drop at s)) ≡ done (record { diagram = d; last = line })
     ended = end .goes-on d ∙ unless-none (e .number) (e .line) _ ends
 
-    pub end-large : tooLarge d ≡ true → record { refusal = record { number = 11; line = line }; job = noJob } ≡ jobRead (sizeTested (readEnd d line (linesOf (drop at s))))
-    end-large large = refused-answer _ _ (large-refused _ _ ended large)
+    -- R and C
+    module _ (size : Dimensions) (is : size ≡ dimensionsOf d) where
+      exceeded : exceeds size ≡ tooLarge d
+      exceeded = ap exceeds is ∙ exceeds-large d
 
-    pub end-done :
-        tooLarge d ≡ false
-        → Padded k outs
-        → k ≤ maxOutputs
-        → (v one : ℕ) → v ≡ (entryIn t 0) .x → one ≡ (entryIn t 1) .t
-        → record { refusal = record { number = 0; line = 0 }; job = record { switches = v; one = one; nodes = n; outputs = k; outs = outs } }
-        ≡ jobRead (sizeTested (readEnd d line (linesOf (drop at s))))
-    unfolding jobRead jobOf refusalOf numberOf lineOf valueOf tabled
-    end-done small listed few v one p q =
-        let nodes : length (tab n (λ i. entryIn t (i + 2))) ≡ n = length-tab n (λ i. entryIn t (i + 2)) in
-        let count : length (take k outs) ≡ k = length-take-le k outs (omega (arith, listed .entries)) in
-        let rest = padded-take maxOutputs k outs few (listed .entries) (listed .past) in
-        rw (small-done _ _ ended small) (rw (p, q, nodes, count, rest))
+      pub end-large : exceeds size ≡ true → record { refusal = record { number = 11; line = line }; job = noJob } ≡ jobRead (sizeTested (readEnd d line (linesOf (drop at s))))
+      end-large large = refused-answer _ _ (large-refused _ _ ended (sym exceeded ∙ large))
+
+      pub end-done :
+          exceeds size ≡ false
+          → Padded k outs
+          → k ≤ maxOutputs
+          → (v one : ℕ) → v ≡ (entryIn t 0) .x → one ≡ (entryIn t 1) .t
+          → record { refusal = record { number = 0; line = 0 }; job = record { switches = v; one = one; nodes = n; outputs = k; outs = outs; rows = size .rows; columns = size .columns } }
+          ≡ jobRead (sizeTested (readEnd d line (linesOf (drop at s))))
+      unfolding jobRead jobOf refusalOf numberOf lineOf valueOf tabled dimensionsOf
+      end-done small listed few v one p q =
+          let nodes : length (tab n (λ i. entryIn t (i + 2))) ≡ n = length-tab n (λ i. entryIn t (i + 2)) in
+          let count : length (take k outs) ≡ k = length-take-le k outs (omega (arith, listed .entries)) in
+          let rest = padded-take maxOutputs k outs few (listed .entries) (listed .past) in
+          rw (small-done _ _ ended (sym exceeded ∙ small)) (rw (p, q, nodes, count, rest, is))
 
 -- the outputs, and what follows them
 module _ (s : List ℕ) (p : Progress) (t : List ℕ) (o : OutsRead) (named : p .refusal .number ≡ 0) (outs : OutsOf s (p .next) (p .line) (p .count) (p .outputs) t o) where

@@ -9,13 +9,15 @@ use common::Refusal;
 use diagram::Node;
 
 // Document 01, "Job text": what a job says beside its node table: V, the label of terminal 1, N, K, and the ids that the outputs
-// name, zeros past them.
+// name, zeros past them; and R and C, which ground 11 counts.
 pub struct Job {
     pub switches: u16,
     pub one: u16,
     pub nodes: u16,
     pub outputs: u16,
     pub outs: [u16; MAX_OUTPUTS],
+    pub rows: u16,
+    pub columns: u16,
 }
 
 // The reader's answer: a refusal, or number 0 and the job.

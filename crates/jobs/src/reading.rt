@@ -193,6 +193,8 @@ fn no_job(refusal: Refusal) -> JobRead
             nodes: 0,
             outputs: 0,
             outs: [0; MAX_OUTPUTS],
+            rows: 0,
+            columns: 0,
         },
     }
 }
@@ -211,7 +213,8 @@ fn read_last(text: &[u8], p: Progress, o: OutsRead, table: &[u16; TABLE]) -> Job
         return no_job(end);
     }
     let ids = o.outs;
-    if wires::too_large(table, &ids, n, k) {
+    let size = wires::dimensions(table, &ids, n, k);
+    if wires::too_large(size) {
         return no_job(Refusal {
             number: 11,
             line: last,
@@ -227,6 +230,8 @@ fn read_last(text: &[u8], p: Progress, o: OutsRead, table: &[u16; TABLE]) -> Job
             nodes: n as u16,
             outputs: p.outputs,
             outs: ids,
+            rows: size.rows,
+            columns: size.columns,
         },
     }
 }

@@ -3,25 +3,17 @@
 use Prim.Native.Nat.{ℕ, zero, suc, _+_, _≤_, _<_}
 use mathlib.Core.Path.{_≡_, refl}
 use mathlib.Core.Logic.{⊎-elim}
-use mathlib.Core.Bool.{Bool, true, false, _||_}
+use mathlib.Core.Bool.{_||_}
 use native.Mathlib.Omega.{arith}
-use lib.ListN.{length, length-append}
+use lib.ListN.{length}
 use lib.Dec.{eqb}
 use Rattle.common.specs.Lists.{bit}
-use Rattle.common.proofs.Lists.{by-test, equal-or-not}
+use Rattle.common.proofs.Lists.{equal-or-not}
 use Rattle.diagram.specs.Diagram.{Diagram, idCount, entry, entries, terminal, labelAt}
 use Rattle.diagram.specs.Wires.{hasRow, hasColumn, owners, rowOwners, columnOwners, rowCount, columnCount, namesZero}
 use Rattle.diagram.specs.Facts.{Facts}
+use Rattle.diagram.proofs.Owners.{owners-more}
 use Rattle.placement.specs.Sentences.{hasBoth, bothCount}
-
--- one id more: one owner more if it has the wire
-pub length-owners : (has : ℕ → Bool) (i : ℕ) → length (owners has (suc i)) ≡ length (owners has i) + bit (has i)
-unfolding owners bit
-length-owners has i =
-    ⊎-elim
-    (λ (e : has i ≡ true). rw (e, owners) (simp length-append (omega arith)))
-    (λ (e : has i ≡ false). rw (e, owners) (omega arith))
-    (by-test (has i))
 
 -- a label is `h`, `v` or `b`
 pub by-label : (P : ℕ → Type 0) → P 1 → P 2 → P 3 → (t : ℕ) → 1 ≤ t → t ≤ 3 → P t
@@ -83,7 +75,7 @@ module _ (d : Diagram) (facts : Facts d) where
   wires-below zero least most = absurd (omega arith)
   wires-below (suc zero) least most = omega (arith, no-wires d)
   wires-below (suc (suc n)) least most =
-      rw (length-owners (hasRow d) (suc n), length-owners (hasColumn d) (suc n), length-owners (hasBoth d) (suc n))
+      rw (owners-more (hasRow d) (suc n), owners-more (hasColumn d) (suc n), owners-more (hasBoth d) (suc n))
       (omega (arith, wires-of (suc n) (omega arith) most, wires-below (suc n) (omega arith) (omega arith)))
 
   pub wires-count : rowCount d + columnCount d ≡ length (d .nodes) + 1 + bothCount d + bit (namesZero d)

@@ -6,7 +6,7 @@ use native.Mathlib.Omega.{arith}
 use lib.ListN.{length, getD, take}
 use lib.Seq.{length-take-le, getD-take, take-append-seam}
 use borrow.Author.Tests.{lt-ltb, le-ltb}
-use Rattle.common.specs.Limits.{maxRows, maxNodes, maxIds, maxOutputs}
+use Rattle.common.specs.Limits.{maxNodes, maxIds, maxOutputs}
 use Rattle.common.specs.Lists.{zeros, padded}
 use Rattle.common.specs.Outcome.{Outcome, done, refused, _then_, lowest, unless, numberOf, lineOf, refusalOf, valueOf, bufferOf, Answered}
 use Rattle.common.proofs.Lists.{length-padded, length-tab}
@@ -30,8 +30,9 @@ use Rattle.placement.specs.declared.Mapped.{Mapped}
 use Rattle.placement.specs.Placement.{cells, crossbar}
 use Rattle.placement.specs.Map.{mapJob}
 use Rattle.placement.specs.Answer.{mapped}
-use Rattle.placement.specs.Filling.{headFrom, allCells, CellsFit, placedInto, jobIn, JobHeld}
+use Rattle.placement.specs.Filling.{headFrom, allCells, CellsFit, placedWhole, placedInto, jobIn, JobHeld}
 use Rattle.placement.proofs.Heads.{head-is}
+use Rattle.placement.proofs.Sound.{rows-least}
 use Rattle.placement.proofs.Tabled.{same-numbers, cells-fit, all-right}
 
 -- what map and its part promise of an outcome
@@ -62,63 +63,63 @@ module _ (t : List ℕ) (job : Job) (held : JobHeld t job) where
       let at = named j below in
       omega (arith, getD-take (job .outputs) (job .outs) j 0 h, at, idCount-tabled t (job .nodes) (take (job .outputs) (job .outs)), nodes-fit)
 
+  rows-are : job .rows ≡ rowCount d
+  unfolding jobOf
+  rows-are = ap (λ (j : Job). j .rows) (held .is)
+
+  columns-are : job .columns ≡ columnCount d
+  unfolding jobOf
+  columns-are = ap (λ (j : Job). j .columns) (held .is)
+
+  pub some-rows : 0 < job .rows
+  some-rows = omega (arith, rows-are, rows-least d (held .facts))
+
+  size-is : job .rows * job .columns ≡ size (crossbar d)
+  unfolding size crossbar
+  size-is = rw (rows-are, columns-are)
+
+  -- from the numbers of the wires: the record, the cells, and the answer
   module _ (w : WireTable) (numbers : WireNumbers (tabled t (job .nodes) []) w) where
     all-numbers : WireNumbers d w
     all-numbers = same-numbers t (job .nodes) (take (job .outputs) (job .outs)) w numbers
 
-    pub height-fits : w .height ≤ maxIds
-    unfolding rowCount maxRows maxIds maxNodes
-    height-fits = omega (arith, all-numbers .height, held .sizes .rows-most)
+    pub head-right : headFrom (w .rows) job ≡ crossbar d
+    head-right = head-is d (w .rows) job (held .facts) (held .is) (all-numbers .row)
 
-    pub head-right : headFrom (w .rows) (w .height) (w .width) (job .switches) (take (job .outputs) (job .outs)) ≡ crossbar d
-    unfolding tabled
-    head-right =
-        rw (held .switches) (head-is d (w .rows) (w .height) (w .width) (all-numbers .row) (all-numbers .height) (all-numbers .width) named)
-
-    -- the cells of the record fit, and the buffer is filled
-    module _ (room : ℕ) (fits : size (crossbar d) ≤ room) where
+    module _ (room : ℕ) (fits : job .rows * job .columns ≤ room) where
       in-room : rowCount d * columnCount d ≤ room
-      unfolding size crossbar
-      in-room = fits
+      in-room = rw (rows-are, columns-are) at fits
 
-      pub cells-in : CellsFit t (w .rows) (w .columns) (w .width) (job .nodes) room
-      cells-in = cells-fit t (job .nodes) (take (job .outputs) (job .outs)) w (held .terminals) all-numbers (held .facts) room in-room (held .sizes)
+      pub cells-in : CellsFit t (w .rows) (w .columns) (job .columns) (job .nodes) room
+      cells-in = cells-fit t (job .nodes) (take (job .outputs) (job .outs)) w (job .columns) (held .terminals) all-numbers columns-are (held .facts) room in-room (held .sizes)
 
-      pub cells-right : (s : List ℕ) → s ≡ zeros room → allCells t (w .rows) (w .columns) (w .width) (job .nodes) s ≡ padded room (cells d)
+      pub cells-right : (s : List ℕ) → s ≡ zeros room → allCells t (w .rows) (w .columns) (job .columns) (job .nodes) s ≡ padded room (cells d)
       cells-right s zero =
-          ap (allCells t (w .rows) (w .columns) (w .width) (job .nodes)) zero
-          ∙ all-right t (job .nodes) (take (job .outputs) (job .outs)) w (held .terminals) all-numbers (held .facts) room in-room
+          ap (allCells t (w .rows) (w .columns) (job .columns) (job .nodes)) zero
+          ∙ all-right t (job .nodes) (take (job .outputs) (job .outs)) w (job .columns) (held .terminals) all-numbers columns-are (held .facts) room in-room
 
-  -- R·C, of a head that is the record
-  module _ (head : Crossbar) (is : head ≡ crossbar d) where
-    size-is : size head ≡ size (crossbar d)
-    size-is = ap size is
+  pub fill-done :
+      (room : ℕ) (head : Crossbar) (after : List ℕ)
+      → head ≡ crossbar d
+      → after ≡ padded room (cells d)
+      → Gives (placedWhole d) room (record { refusal = record { number = 0; line = 0 }; head = head }) after
+  unfolding bufferOf mapped refusalOf numberOf lineOf valueOf
+  fill-done room head after is b = record { answer = rw is; buffer = b }
 
-    -- what a buffer of this length lacks of the cells
-    module _ (room lacks : ℕ) (is-lacks : lacks ≡ size head - room) where
-      pub size-fits : lacks ≤ 0 → size (crossbar d) ≤ room
-      size-fits none = omega (arith, size-is)
+  -- what a buffer of this length lacks of the cells
+  module _ (room lacks : ℕ) (is-lacks : lacks ≡ job .rows * job .columns - room) where
+    pub place-short : (m : Mapped) (after : List ℕ) → 0 < lacks → m ≡ mapped (refused 14 0) → after ≡ zeros room → Gives (placedInto d room) room m after
+    unfolding placedInto lowest unless bufferOf
+    place-short m after short a b =
+        let o : placedInto d room ≡ refused 14 0 = rw (lt-ltb room (size (crossbar d)) (omega (arith, size-is))) in
+        record { answer = a ∙ ap mapped (sym o); buffer = b ∙ ap (bufferOf room (λ (w : Whole). w .codes)) (sym o) }
 
-      module _ (m : Mapped) (after : List ℕ) where
-        pub place-short : 0 < lacks → m ≡ mapped (refused 14 0) → after ≡ zeros room → Gives (placedInto d room) room m after
-        unfolding placedInto lowest unless bufferOf
-        place-short short a b =
-            let o : placedInto d room ≡ refused 14 0 = rw (lt-ltb room (size (crossbar d)) (omega (arith, size-is))) in
-            record { answer = a ∙ ap mapped (sym o); buffer = b ∙ ap (bufferOf room (λ (w : Whole). w .codes)) (sym o) }
+    pub place-fits : lacks ≤ 0 → job .rows * job .columns ≤ room
+    place-fits none = omega arith
 
-        pub place-done :
-            lacks ≤ 0
-            → m ≡ record { refusal = record { number = 0; line = 0 }; head = head }
-            → after ≡ padded room (cells d)
-            → Gives (placedInto d room) room m after
-        unfolding placedInto lowest unless bufferOf mapped refusalOf numberOf lineOf valueOf
-        place-done none a b =
-            let o : placedInto d room ≡ done (record { head = crossbar d; codes = cells d }) =
-            rw (le-ltb room (size (crossbar d)) (size-fits none)) in
-            record {
-              answer = a ∙ rw is (ap mapped (sym o));
-              buffer = b ∙ ap (bufferOf room (λ (w : Whole). w .codes)) (sym o);
-            }
+    pub place-done : lacks ≤ 0 → placedInto d room ≡ placedWhole d
+    unfolding placedInto lowest unless
+    place-done none = rw (le-ltb room (size (crossbar d)) (omega (arith, size-is)))
 
 -- the outcome of a job whose reading has a number
 refused-by :
@@ -150,10 +151,6 @@ module _ (s : List ℕ) (r : JobRead) (t : List ℕ) (read : Answered (accepted 
         rw (read-is s r (read .answer) d found)
         (rw (take-append-seam (d .outs) (zeros (maxOutputs - length (d .outs)))) (flat-tabled s d r t read found))
 
-    same-switches : (d : Diagram) → accepted s ≡ done d → r .job .switches ≡ (jobIn t (r .job)) .switches
-    unfolding jobOf
-    same-switches d found = rw (held-is d found) (ap (λ (j : Job). j .switches) (read-is s r (read .answer) d found))
-
     outs-long : (d : Diagram) → accepted s ≡ done d → r .job .outputs ≤ length (r .job .outs)
     unfolding jobOf
     outs-long d found =
@@ -168,7 +165,7 @@ module _ (s : List ℕ) (r : JobRead) (t : List ℕ) (read : Answered (accepted 
         let is = held-is d (found .1) in
         record {
           terminals = flat-terminals s d r t read (found .1);
-          switches = same-switches d (found .1);
+          is = read-is s r (read .answer) d (found .1) ∙ ap jobOf (sym is);
           outs = outs-long d (found .1);
           facts = rw is (job .facts);
           sizes = rw is (job .sizes);

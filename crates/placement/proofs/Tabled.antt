@@ -16,7 +16,7 @@ use Rattle.diagram.specs.declared.Node.{Node}
 use Rattle.diagram.specs.declared.WireTable.{WireTable}
 use Rattle.diagram.specs.Diagram.{Diagram, idCount, entry, entries, switchAt, labelAt}
 use Rattle.diagram.specs.Table.{entryIn, tabled, Terminals, WireNumbers, childOf}
-use Rattle.diagram.specs.Wires.{hasRow, hasColumn, rowOf, columnOf, rowOwners, columnOwners, rowCount, columnCount}
+use Rattle.diagram.specs.Wires.{hasRow, hasColumn, rowOf, columnOf, rowCount, columnCount}
 use Rattle.diagram.specs.Facts.{Facts, Sizes}
 use Rattle.diagram.proofs.TableLaws.{idCount-tabled, entry-tabled}
 use Rattle.placement.specs.Placement.{cells}
@@ -28,9 +28,9 @@ use Rattle.placement.proofs.Wanted.{ownPlace, edgePlace, Whose, of-labe
 
 -- the numbers of the wires don't depend on the outputs
 pub same-numbers : (t : List ℕ) (n : ℕ) (outs : List ℕ) (w : WireTable) → WireNumbers (tabled t n []) w → WireNumbers (tabled t n outs) w
-unfolding tabled idCount entry entries rowOf columnOf hasRow hasColumn rowOwners columnOwners columnCount
+unfolding tabled idCount entry entries rowOf columnOf hasRow hasColumn
 same-numbers t n outs w numbers =
-    record { row = numbers .row; column = numbers .column; height = numbers .height; width = numbers .width }
+    record { row = numbers .row; column = numbers .column }
 
 -- a test that a child is not terminal 0
 child-some : (k : ℕ) → not (eqb k 0) ≡ true → k ≡ 0 → ⊥
@@ -39,8 +39,8 @@ child-some k h e = true-or-false (not (eqb k 0)) h (rw (eq-eqb k 0 e))
 some-child : (k : ℕ) → (k ≡ 0 → ⊥) → not (eqb k 0) ≡ true
 some-child k h = rw (ne-eqb k 0 h)
 
-module _ (t : List ℕ) (n : ℕ) (outs : List ℕ) (w : WireTable)
-    (terminals : Terminals t) (numbers : WireNumbers (tabled t n outs) w) where
+module _ (t : List ℕ) (n : ℕ) (outs : List ℕ) (w : WireTable) (width : ℕ)
+    (terminals : Terminals t) (numbers : WireNumbers (tabled t n outs) w) (wide : width ≡ columnCount (tabled t n outs)) where
   abbrev d : Diagram
   d = tabled t n outs
 
@@ -53,14 +53,14 @@ module _ (t : List ℕ) (n : ℕ) (outs : List ℕ) (w : WireTable)
   column-is : (i : ℕ) → i < n + 2 → getD (w .columns) i 0 ≡ columnOf d i
   column-is i h = numbers .column i (omega (arith, idCount-tabled t n outs))
 
-  own-is : (i : ℕ) → i < n + 2 → cellPlace (w .rows) (w .columns) (w .width) i i ≡ ownPlace d i
+  own-is : (i : ℕ) → i < n + 2 → cellPlace (w .rows) (w .columns) width i i ≡ ownPlace d i
   unfolding cellPlace ownPlace
-  own-is i h = rw (row-is i h, column-is i h, numbers .width)
+  own-is i h = rw (row-is i h, column-is i h, wide)
 
-  edge-is : (i k : ℕ) → i < n + 2 → k < n + 2 → edgePlaceIn t (w .rows) (w .columns) (w .width) i k ≡ edgePlace d i k
+  edge-is : (i k : ℕ) → i < n + 2 → k < n + 2 → edgePlaceIn t (w .rows) (w .columns) width i k ≡ edgePlace d i k
   unfolding cellPlace edgePlaceIn edgePlace hasRow hasColumn
   edge-is i k h q =
-      rw (← (at i h), ← (at k q), row-is i h, row-is k q, column-is i h, column-is k q, numbers .width)
+      rw (← (at i h), ← (at k q), row-is i h, row-is k q, column-is i h, column-is k q, wide)
 
   child-is : (i : ℕ) (side : Bool) → i < n + 2 → childOf side (entryIn t i) ≡ childAt d i side
   unfolding childOf
@@ -78,13 +78,13 @@ module _ (t : List ℕ) (n : ℕ) (outs : List ℕ) (w : WireTable)
     target = padded room (cells d)
 
     abbrev ownIn : ℕ → ℕ
-    ownIn i = cellPlace (w .rows) (w .columns) (w .width) i i
+    ownIn i = cellPlace (w .rows) (w .columns) width i i
 
     abbrev child : ℕ → Bool → ℕ
     child i side = childOf side (entryIn t i)
 
     abbrev edgeIn : ℕ → Bool → ℕ
-    edgeIn i side = edgePlaceIn t (w .rows) (w .columns) (w .width) i (child i side)
+    edgeIn i side = edgePlaceIn t (w .rows) (w .columns) width i (child i side)
 
     -- each on cell, and each edge, has its place in the buffer and its code there
     own-right : (i : ℕ) → i < n + 2 → (entryIn t i) .t ≡ 3 → (ownIn i < length target) × (getD target (ownIn i) 0 ≡ 1)
@@ -120,7 +120,7 @@ module _ (t : List ℕ) (n : ℕ) (outs : List ℕ) (w : WireTable)
     unfolding tabled
     nodes-fit sizes = rw (length-tab n (λ (k : ℕ). entryIn t (k + 2))) at (sizes .nodes-most)
 
-    pub cells-fit : Sizes d → CellsFit t (w .rows) (w .columns) (w .width) n room
+    pub cells-fit : Sizes d → CellsFit t (w .rows) (w .columns) width n room
     unfolding maxIds
     cells-fit sizes =
         record {
@@ -140,7 +140,7 @@ module _ (t : List ℕ) (n : ℕ) (outs : List ℕ) (w : WireTable)
       pub own : (i : ℕ) → i < k + 2 → labelAt d i ≡ 3 → Filled target s (ownPlace d i)
       pub edge : (i : ℕ) (side : Bool) → i < k + 2 → IsEdge d i side → Filled target s (edgePlace d i (childAt d i side))
 
-    on-store : (i : ℕ) (s : List ℕ) → i < n + 2 → Partly target s → Stored target (eqb ((entryIn t i) .t) 3) (ownIn i) s (withOn t (w .rows) (w .columns) (w .width) i s)
+    on-store : (i : ℕ) (s : List ℕ) → i < n + 2 → Partly target s → Stored target (eqb ((entryIn t i) .t) 3) (ownIn i) s (withOn t (w .rows) (w .columns) width i s)
     unfolding withOn
     on-store i s h partly =
         one-store target (eqb ((entryIn t i) .t) 3) (ownIn i) 1 s partly (λ e. own-right i h (eqb-true ((entryIn t i) .t) 3 e))
@@ -150,7 +150,7 @@ module _ (t : List ℕ) (n : ℕ) (outs : List ℕ) (w : WireTable)
         → 2 ≤ i
         → i < n + 2
         → Partly target s
-        → Stored target (not (eqb (child i side) 0)) (edgeIn i side) s (withEdge t (w .rows) (w .columns) (w .width) side i s)
+        → Stored target (not (eqb (child i side) 0)) (edgeIn i side) s (withEdge t (w .rows) (w .columns) width side i s)
     unfolding withEdge
     edge-store i side s least h partly =
         one-store target (not (eqb (child i side) 0)) (edgeIn i side) (edgeCode side ((entryIn t i) .x)) s partly
@@ -179,7 +179,7 @@ module _ (t : List ℕ) (n : ℕ) (outs : List ℕ) (w : WireTable)
     edges-filled i false s₀ s₁ s₂ h e low high = high .kept (edgePlace d i (childAt d i false)) (edge-filled i false s₀ s₁ h e low)
     edges-filled i true s₀ s₁ s₂ h e low high = edge-filled i true s₁ s₂ h e high
 
-    begin : Done 0 (withOn t (w .rows) (w .columns) (w .width) 1 (zeros (length target)))
+    begin : Done 0 (withOn t (w .rows) (w .columns) width 1 (zeros (length target)))
     begin =
         let on = on-store 1 (zeros (length target)) (omega arith) (partly-zeros target) in
         record {
@@ -194,12 +194,12 @@ module _ (t : List ℕ) (n : ℕ) (outs : List ℕ) (w : WireTable)
         }
 
     -- a node's stores keep what was filled, and fill the places of its own cells
-    more : (k : ℕ) (s : List ℕ) → k < n → Done k s → Done (suc k) (withCells t (w .rows) (w .columns) (w .width) (k + 2) s)
+    more : (k : ℕ) (s : List ℕ) → k < n → Done k s → Done (suc k) (withCells t (w .rows) (w .columns) width (k + 2) s)
     unfolding withCells
     more k s h done =
-        let s₁ = withOn t (w .rows) (w .columns) (w .width) (k + 2) s in
-        let s₂ = withEdge t (w .rows) (w .columns) (w .width) false (k + 2) s₁ in
-        let s₃ = withEdge t (w .rows) (w .columns) (w .width) true (k + 2) s₂ in
+        let s₁ = withOn t (w .rows) (w .columns) width (k + 2) s in
+        let s₂ = withEdge t (w .rows) (w .columns) width false (k + 2) s₁ in
+        let s₃ = withEdge t (w .rows) (w .columns) width true (k + 2) s₂ in
         let on = on-store (k + 2) s (omega arith) (done .partly) in
         let low = edge-store (k + 2) false s₁ (omega arith) (omega arith) (on .partly) in
         let high = edge-store (k + 2) true s₂ (omega arith) (omega arith) (low .partly) in
@@ -219,7 +219,7 @@ module _ (t : List ℕ) (n : ℕ) (outs : List ℕ) (w : WireTable)
               (at-or-below j (k + 2) (omega arith));
         }
 
-    all-done : (k : ℕ) → k ≤ n → Done k (withNodes t (w .rows) (w .columns) (w .width) k (withOn t (w .rows) (w .columns) (w .width) 1 (zeros (length target))))
+    all-done : (k : ℕ) → k ≤ n → Done k (withNodes t (w .rows) (w .columns) width k (withOn t (w .rows) (w .columns) width 1 (zeros (length target))))
     unfolding withNodes
     all-done zero h = begin
     all-done (suc k) h = more k _ (omega arith) (all-done k (omega arith))
@@ -228,9 +228,9 @@ module _ (t : List ℕ) (n : ℕ) (outs : List ℕ) (w : WireTable)
     whose-filled s p done (of-label i most b at) = rw at (done .own i (omega (arith, idCount-tabled t n outs)) b)
     whose-filled s p done (of-edge i side e at) = rw at (done .edge i side (omega (arith, idCount-tabled t n outs, e .most)) e)
 
-    pub all-right : allCells t (w .rows) (w .columns) (w .width) n (zeros room) ≡ padded room (cells d)
+    pub all-right : allCells t (w .rows) (w .columns) width n (zeros room) ≡ padded room (cells d)
     unfolding allCells
     all-right =
         let done = all-done n (omega arith) in
-        ap (λ (m : ℕ). withNodes t (w .rows) (w .columns) (w .width) n (withOn t (w .rows) (w .columns) (w .width) 1 (zeros m))) (sym (target-long d facts room fits))
+        ap (λ (m : ℕ). withNodes t (w .rows) (w .columns) width n (withOn t (w .rows) (w .columns) width 1 (zeros m))) (sym (target-long d facts room fits))
         ∙ all-filled target _ (done .partly) (λ p within some. whose-filled _ p done (whose d facts room fits p some))

@@ -1,6 +1,6 @@
 -- The cells as they are stored, one after another, from the table of the diagram and the tables of the wires' numbers: where each cell
 -- stands in the buffer, and the buffer after each store.
-use Prim.Native.Nat.{ℕ, zero, suc, _+_, _*_, _≤_, _<_}
+use Prim.Native.Nat.{ℕ, zero, suc, _+_, _*_, _-_, _≤_, _<_}
 use mathlib.Core.Path.{_≡_}
 use mathlib.Core.Bool.{Bool, true, false, not, _&&_}
 use mathlib.Core.List.{List, [], _∷_, map}
@@ -8,7 +8,7 @@ use lib.ListN.{length, getD, set, take}
 use lib.Dec.{eqb, ltb}
 use Rattle.common.specs.Labels.{labelH, labelV, labelB}
 use Rattle.common.specs.Limits.{maxIds, maxSwitches, maxOutputs}
-use Rattle.common.specs.Lists.{bit, padded}
+use Rattle.common.specs.Lists.{padded}
 use Rattle.common.specs.Outcome.{Outcome, done, _when_, lowest, unless}
 use Rattle.cells.specs.declared.Cell.the-variants.{Yes, No}
 use Rattle.cells.specs.declared.Crossbar.{Crossbar}
@@ -18,7 +18,8 @@ use Rattle.diagram.specs.Diagram.{Diagram}
 use Rattle.diagram.specs.Table.{entryIn, tabled, Terminals, childOf}
 use Rattle.diagram.specs.Facts.{Facts, Sizes}
 use Rattle.jobs.specs.declared.Job.{Job}
-use Rattle.diagram.specs.Wires.{labelHas, anyZero}
+use Rattle.jobs.specs.Answer.{jobOf}
+use Rattle.diagram.specs.Wires.{labelHas}
 use Rattle.placement.specs.Placement.{cells, crossbar}
 
 -- the first where the test holds, else the second
@@ -83,25 +84,27 @@ pub record CellsFit (t rows columns : List ℕ) (width n room : ℕ) : Type 0 wh
   pub own : (i : ℕ) → i < n + 2 → (entryIn t i) .t ≡ labelB → cellPlace rows columns width i i < room
   pub edge : (high : Bool) (i : ℕ) → 2 ≤ i → i < n + 2 → EdgeFits t rows columns width high i room
 
--- the row of an output that names this id, from the table of rows and how many rows ids have
+-- the row of an output that names this id, from the table of rows and R: of id 0 the last one
 unfoldable pub outRowIn : List ℕ → ℕ → ℕ → ℕ
-outRowIn rows height i = choose (eqb i 0) height (getD rows i 0)
+outRowIn rows r i = choose (eqb i 0) (r - 1) (getD rows i 0)
 
--- the record of v switches and the outputs that name the ids outs, from that table and how many rows and columns ids have
-unfoldable pub headFrom : List ℕ → ℕ → ℕ → ℕ → List ℕ → Crossbar
-headFrom rows height width v outs =
+-- the record of a job, from that table
+unfoldable pub headFrom : List ℕ → Job → Crossbar
+headFrom rows job =
     record {
-      rows = height + bit (anyZero outs);
-      columns = width;
-      switches = v;
-      outputs = length outs;
-      outs = padded maxOutputs (map (outRowIn rows height) outs);
+      rows = job .rows;
+      columns = job .columns;
+      switches = job .switches;
+      outputs = job .outputs;
+      outs = padded maxOutputs (map (outRowIn rows (job .rows)) (take (job .outputs) (job .outs)));
     }
 
 -- map's outcome for the diagram of an accepted job: ground 14, or its crossbar
+abbrev pub placedWhole : Diagram → Outcome Whole
+placedWhole d = done (record { head = crossbar d; codes = cells d })
+
 unfoldable pub placedInto : Diagram → ℕ → Outcome Whole
-placedInto d room =
-    unless (lowest ((14 when ltb room (size (crossbar d))) ∷ [])) 0 (done (record { head = crossbar d; codes = cells d }))
+placedInto d room = unless (lowest ((14 when ltb room (size (crossbar d))) ∷ [])) 0 (placedWhole d)
 
 -- the diagram of a job whose nodes are in a table
 abbrev pub jobIn : List ℕ → Job → Diagram
@@ -110,7 +113,7 @@ jobIn t job = tabled t (job .nodes) (take (job .outputs) (job .outs))
 -- the table and the job are what the reader hands over of an accepted job
 pub record JobHeld (t : List ℕ) (job : Job) : Type 0 where
   pub terminals : Terminals t
-  pub switches : job .switches ≡ (jobIn t job) .switches
+  pub is : job ≡ jobOf (jobIn t job)
   pub outs : job .outputs ≤ length (job .outs)
   pub facts : Facts (jobIn t job)
   pub sizes : Sizes (jobIn t job)

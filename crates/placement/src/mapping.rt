@@ -12,17 +12,16 @@ use jobs::Job;
 use jobs::JobRead;
 use jobs::table::read_diagram;
 ghost use mathlib.Core.Path.{_≡_};
-ghost use Prim.Native.Nat.{_-_};
+ghost use Prim.Native.Nat.{_*_, _-_, _≤_};
 ghost use lib.ListN.{length};
 ghost use Rattle.common.specs.Lists.{zeros};
 ghost use Rattle.common.specs.Outcome.{refused, Answered};
-ghost use Rattle.cells.specs.Record.{size};
 ghost use Rattle.diagram.specs.Table.{tableLength};
 ghost use Rattle.jobs.specs.Answer.{jobRead};
 ghost use Rattle.jobs.specs.Job.{accepted};
 ghost use Rattle.jobs.specs.Spread.{flat};
 ghost use Rattle.placement.specs.Answer.{mapped};
-ghost use Rattle.placement.specs.Filling.{placedInto, jobIn, JobHeld};
+ghost use Rattle.placement.specs.Filling.{placedWhole, placedInto, jobIn, JobHeld};
 ghost use Rattle.placement.specs.Map.{mapJob};
 
 // A refusal: "0 as .. field of a record".
@@ -42,11 +41,28 @@ fn refuse(refusal: Refusal) -> Mapped
 }
 
 // Ground 14: how many bytes a buffer lacks of a crossbar's R·C.
-fn lacking(head: Crossbar, room: usize) -> usize
-    ensures { λ r. ⌜ r ≡ size head - room ⌝ }
+fn lacking(job: Job, room: usize) -> usize
+    ensures { λ r. ⌜ r ≡ job .rows * job .columns - room ⌝ }
 {
-    let due = head.rows as usize * head.columns as usize;
+    let due = job.rows as usize * job.columns as usize;
     if room < due { due - room } else { 0 }
+}
+
+// The cells and the record of an accepted job, into a buffer of zeros that holds them.
+fn fill(table: &[u16; TABLE], job: Job, cells: &mut [u8]) -> Mapped
+    requires { ⌜ JobHeld (now table) job ⌝ }
+    requires { ⌜ (now cells ≡ zeros (length (now cells))) × (job .rows * job .columns ≤ length (now cells)) ⌝ }
+    ensures { λ r. ⌜ Answered (placedWhole (jobIn (now (table .entry)) job)) mapped (λ w. w .codes) (length (now (cells .entry))) r (now (cells .exit)) ⌝ }
+{
+    let n = job.nodes as usize;
+    let wires = number_wires(table, n);
+    let rows = wires.rows;
+    let columns = wires.columns;
+    all_cells(table, &rows, &columns, job.columns, n, cells);
+    Mapped {
+        refusal: Refusal { number: 0, line: 0 },
+        head: head_of(&rows, job),
+    }
 }
 
 // Ground 14, or the cells and the record of an accepted job, into a buffer of zeros.
@@ -55,30 +71,13 @@ fn place(table: &[u16; TABLE], job: Job, cells: &mut [u8]) -> Mapped
     requires { ⌜ now cells ≡ zeros (length (now cells)) ⌝ }
     ensures { λ r. ⌜ Answered (placedInto (jobIn (now (table .entry)) job) (length (now (cells .entry)))) mapped (λ w. w .codes) (length (now (cells .entry))) r (now (cells .exit)) ⌝ }
 {
-    let n = job.nodes as usize;
-    let outs = job.outs;
-    let wires = number_wires(table, n);
-    let rows = wires.rows;
-    let columns = wires.columns;
-    let head = head_of(
-        &rows,
-        wires.height,
-        wires.width,
-        job.switches,
-        job.outputs as usize,
-        &outs,
-    );
-    if 0 < lacking(head, cells.len()) {
+    if 0 < lacking(job, cells.len()) {
         return refuse(Refusal {
             number: 14,
             line: 0,
         });
     }
-    all_cells(table, &rows, &columns, wires.width, n, cells);
-    Mapped {
-        refusal: Refusal { number: 0, line: 0 },
-        head,
-    }
+    fill(table, job, cells)
 }
 
 // The job that is mapped, and its diagram in the table. Grounds 1 to 11.

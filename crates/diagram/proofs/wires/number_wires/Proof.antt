@@ -8,7 +8,7 @@ use lib.ListN.{length, length-set}
 use Rattle.common.specs.Limits.{maxNodes, maxIds}
 use Rattle.diagram.specs.declared.Node.{Node}
 use Rattle.diagram.specs.Table.{tabled}
-use Rattle.diagram.specs.Wires.{hasRow, hasColumn, rowOf, columnOf, rowOwners, columnOwners, columnCount}
+use Rattle.diagram.specs.Wires.{hasRow, hasColumn, rowOf, columnOf}
 use Rattle.diagram.proofs.TableLaws.{idCount-tabled, entry-tabled}
 use Rattle.diagram.proofs.Running.{Running, running-none, running-more, byte-most}
 use Rattle.diagram.proofs.wires.number_wires.Statement.{statement}
@@ -63,7 +63,7 @@ cast-height c = search needs
 add-height : tie.Need-add-height Inv-loop μ-loop
 unfolding maxNodes
 add-height c =
-    record { fits = omega (arith, byte-most (c .has-row .result), c .before .before .before .loop .inv .4 .most) }
+    record { fits = omega (arith, byte-most (c .has-row .result), c .before .before .before .loop .inv .4 .counted .most) }
 
 has-column-requires : tie.Need-has-column-requires Inv-loop μ-loop
 has-column-requires c κs = search needs
@@ -74,7 +74,7 @@ cast-width c = search needs
 add-width : tie.Need-add-width Inv-loop μ-loop
 unfolding maxNodes
 add-width c =
-    record { fits = omega (arith, byte-most (c .has-column .result), c .before .before .before .before .loop .inv .5 .most) }
+    record { fits = omega (arith, byte-most (c .has-column .result), c .before .before .before .before .loop .inv .5 .counted .most) }
 
 add-id : tie.Need-add-id Inv-loop μ-loop
 unfolding maxNodes
@@ -99,7 +99,7 @@ loop-again c =
     )
 
 returns : tie.Need-returns Inv-loop μ-loop
-unfolding rowOf columnOf rowOwners columnOwners columnCount
+unfolding rowOf columnOf
 returns c =
     let inv = c .before .loop .inv in
     let a = c .before .before .args in
@@ -108,8 +108,6 @@ returns c =
     record {
       row = λ i h. inv .4 .filled i (omega arith);
       column = λ i h. inv .5 .filled i (omega arith);
-      height = inv .4 .counted ∙ rw (all, ids);
-      width = inv .5 .counted ∙ rw (all, ids);
     }
 
 pub number-wires-spec : {M : Type 1} → statement M

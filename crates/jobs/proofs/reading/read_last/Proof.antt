@@ -34,6 +34,9 @@ returns : tie.Need-returns
 returns c =
     let a = c .before .before .before .before .before .before .before .args in c .no-job .ensures ∙ end-refused _ _ _ (a .p .count) (a .p .outputs) (now (a .table)) (a .o .outs) _ (end-step _ _ _ _ (c .before .before .before .end-line .ensures)) (c .before .if1 .taken)
 
+dimensions-requires : tie.Need-dimensions-requires
+dimensions-requires c κs = search needs
+
 too-large-requires : tie.Need-too-large-requires
 too-large-requires c κs = search needs
 
@@ -42,7 +45,11 @@ no-job-requires-2 c κs = search needs
 
 returns-2 : tie.Need-returns-2
 returns-2 c =
-    let a = c .before .before .before .before .before .before .before .before .before .before .before .args in c .no-job2 .ensures ∙ end-large _ _ _ (a .p .count) (a .p .outputs) (now (a .table)) (a .o .outs) _ (end-step _ _ _ _ (c .before .before .before .before .before .before .before .end-line .ensures)) (c .before .before .before .before .before .if1 .left) (sym (c .before .before .too-large .ensures) ∙ c .before .if2 .taken)
+    let sized = c .before .before .before in
+    let left = sized .before .before .before in
+    let end = left .before .before in
+    let a = end .before .before .before .before .args in
+    c .no-job2 .ensures ∙ end-large _ _ _ (a .p .count) (a .p .outputs) (now (a .table)) (a .o .outs) _ (end-step _ _ _ _ (end .end-line .ensures)) (left .if1 .left) _ (sized .dimensions .ensures) (sym (c .before .before .too-large .ensures) ∙ c .before .if2 .taken)
 
 entry-at-requires : tie.Need-entry-at-requires
 unfolding maxIds
@@ -54,15 +61,22 @@ unfolding maxIds
 entry-at-requires-2 c κs =
     omega arith
 
-cast-t18 : tie.Need-cast-t18
+cast-t19 : tie.Need-cast-t19
 unfolding maxNodes
-cast-t18 c =
-    let b = c .before .before .before .before .before .before .before .before .before .before .before .before .pre .0 in omega (arith, b .within, b .nodes-most)
+cast-t19 c =
+    let sized = c .before .before .before .before in
+    let start = sized .before .before .before .before .before .before .before .before .before in
+    let b = start .pre .0 in omega (arith, b .within, b .nodes-most)
 
 returns-3 : tie.Need-returns-3
 unfolding entryIn
 returns-3 c =
-    let a = c .before .before .before .before .before .before .before .before .before .before .before .before .args in end-done _ _ _ (a .p .count) (a .p .outputs) (now (a .table)) (a .o .outs) _ (end-step _ _ _ _ (c .before .before .before .before .before .before .before .before .end-line .ensures)) (c .before .before .before .before .before .before .if1 .left) (sym (c .before .before .before .too-large .ensures) ∙ c .before .before .if2 .left) (c .before .before .before .before .before .before .before .before .before .before .before .before .pre .1) (c .before .before .before .before .before .before .before .before .before .before .before .before .pre .0 .outputs-most) _ _ (ap (λ (n : Node). n .x) (c .before .entry-at .ensures)) (ap (λ (n : Node). n .t) (c .entry-at2 .ensures))
+    let sized = c .before .before .before .before in
+    let left = sized .before .before .before in
+    let end = left .before .before in
+    let start = end .before .before .before .before in
+    let a = start .args in
+    end-done _ _ _ (a .p .count) (a .p .outputs) (now (a .table)) (a .o .outs) _ (end-step _ _ _ _ (end .end-line .ensures)) (left .if1 .left) _ (sized .dimensions .ensures) (sym (c .before .before .before .too-large .ensures) ∙ c .before .before .if2 .left) (start .pre .1) (start .pre .0 .outputs-most) _ _ (ap (λ (n : Node). n .x) (c .before .entry-at .ensures)) (ap (λ (n : Node). n .t) (c .entry-at2 .ensures))
 
 pub read-last-spec : {M : Type 1} → statement M
 read-last-spec =
@@ -74,10 +88,11 @@ read-last-spec =
     end-line-requires
     no-job-requires
     returns
+    dimensions-requires
     too-large-requires
     no-job-requires-2
     returns-2
     entry-at-requires
     entry-at-requires-2
-    cast-t18
+    cast-t19
     returns-3)

@@ -3,7 +3,6 @@ use Prim.Native.Nat.{_≤_}
 use native.Mathlib.Omega.{arith}
 use native.Mathlib.Nat.{mul-le-mul-right}
 use borrow.Author.Needs.{needs}
-use Rattle.cells.specs.Record.{size}
 use Rattle.placement.proofs.mapping.lacking.Statement.{statement}
 use Rattle.placement.proofs.mapping.lacking.Tie as tie
 
@@ -15,7 +14,7 @@ cast-due-2 c = search needs
 
 mul-due : tie.Need-mul-due
 mul-due c =
-    let x = c .before .before .args .head in
+    let x = c .before .before .args .job in
     let rows : x .rows ≤ 65535 = omega arith in
     record { fits = omega (arith, mul-le-mul-right (x .columns) rows) }
 
@@ -23,11 +22,9 @@ sub-result : tie.Need-sub-result
 sub-result c = search needs
 
 returns : tie.Need-returns
-unfolding size
 returns c = search needs
 
 returns-2 : tie.Need-returns-2
-unfolding size
 returns-2 c = omega arith
 
 pub lacking-spec : {M : Type 1} → statement M

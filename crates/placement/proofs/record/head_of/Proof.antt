@@ -7,21 +7,23 @@ use lib.ListN.{length, take, length-set}
 use borrow.Author.Needs.{needs}
 use Rattle.common.specs.Limits.{maxIds, maxNodes, maxOutputs}
 use Rattle.common.specs.Lists.{padded}
-use Rattle.placement.specs.Filling.{outRowIn}
-use Rattle.diagram.proofs.Running.{byte-most}
-use Rattle.placement.proofs.Heads.{rows-more, head-from}
+use Rattle.placement.specs.Filling.{outRowIn, headFrom}
+use Rattle.placement.proofs.Heads.{rows-more}
 use Rattle.placement.proofs.record.head_of.Statement.{statement}
 use Rattle.placement.proofs.record.head_of.Tie as tie
 
 abbrev Inv-loop : tie.InvT-loop
-Inv-loop rows height width v k outs out-rows₀ j₀ out-rows j =
+Inv-loop rows job outs k out-rows₀ j₀ out-rows j =
     (j ≤ k)
     × (k ≤ 32)
     × (length out-rows ≡ 32)
-    × (out-rows ≡ padded maxOutputs (map (outRowIn rows height) (take j outs)))
+    × (out-rows ≡ padded maxOutputs (map (outRowIn rows (job .rows)) (take j outs)))
 
 abbrev μ-loop : tie.MeasureT-loop
-μ-loop rows height width v k outs out-rows₀ j₀ out-rows j = k - j
+μ-loop rows job outs k out-rows₀ j₀ out-rows j = k - j
+
+cast-k : tie.Need-cast-k Inv-loop μ-loop
+cast-k c = search needs
 
 loop-holds : tie.Need-loop-holds Inv-loop μ-loop
 unfolding maxOutputs padded
@@ -30,15 +32,17 @@ loop-holds c = (omega arith, omega arith, refl, refl)
 mul-out-row : tie.Need-mul-out-row Inv-loop μ-loop
 mul-out-row c = omega arith
 
-element-copy-out-out-row : tie.Need-element-copy-out-out-row Inv-loop μ-loop
-element-copy-out-out-row c = omega arith
+array-read-out-row : tie.Need-array-read-out-row Inv-loop μ-loop
+array-read-out-row c = omega arith
 
 cast-out-row : tie.Need-cast-out-row Inv-loop μ-loop
 unfolding maxIds maxNodes
-cast-out-row c = omega (arith, c .before .before .before .pre .1 (c .before .before .loop .j) (omega arith))
+cast-out-row c = omega (arith, c .before .before .before .before .pre .1 (c .before .loop .j) (omega arith))
 
 out-row-requires : tie.Need-out-row-requires Inv-loop μ-loop
-out-row-requires c κs = c .before .before .before .pre .1 (c .before .before .loop .j) (omega arith)
+out-row-requires c κs =
+    let start = c .before .before .before .before in
+    (start .pre .1 (c .before .loop .j) (omega arith), start .pre .0 .2)
 
 mul-out-rows : tie.Need-mul-out-rows Inv-loop μ-loop
 mul-out-rows c = omega arith
@@ -55,9 +59,9 @@ loop-less c = omega arith
 loop-again : tie.Need-loop-again Inv-loop μ-loop
 unfolding maxOutputs
 loop-again c =
-    let at-loop = c .before .before .before in
+    let at-loop = c .before .before in
     let inv = at-loop .loop .inv in
-    let outs = at-loop .before .args .outs .now in
+    let outs = at-loop .before .before .before .args .job .outs in
     let j = at-loop .loop .j in
     let within : j < length outs = omega arith in
     let room : j < 32 = omega arith in (
@@ -67,25 +71,13 @@ loop-again c =
       rw (inv .3, c .out-row .ensures) (rows-more _ outs _ j within room),
     )
 
-names-zero-requires : tie.Need-names-zero-requires Inv-loop μ-loop
-names-zero-requires c κs = (c .before .before .pre .0 .0, c .before .before .pre .0 .1)
-
-cast-t20 : tie.Need-cast-t20 Inv-loop μ-loop
-cast-t20 c = search needs
-
-add-t21 : tie.Need-add-t21 Inv-loop μ-loop
-unfolding maxIds maxNodes
-add-t21 c = record { fits = omega (arith, byte-most (c .names-zero .result)) }
-
-cast-t22 : tie.Need-cast-t22 Inv-loop μ-loop
-cast-t22 c = omega arith
-
 returns : tie.Need-returns Inv-loop μ-loop
+unfolding headFrom
 returns c =
-    let at-loop = c .before .before in
-    let start = at-loop .before in
-    let all : at-loop .loop .j ≡ start .args .k = omega arith in
-    head-from _ _ _ _ _ _ _ _ (start .pre .0 .1) (c .names-zero .ensures) (at-loop .loop .inv .3 ∙ rw all)
+    let at-loop = c .before in
+    let start = at-loop .before .before .before in
+    let all : at-loop .loop .j ≡ start .args .job .outputs = omega arith in
+    rw (at-loop .loop .inv .3, all)
 
 pub head-of-spec : {M : Type 1} → statement M
 head-of-spec =
@@ -93,9 +85,10 @@ head-of-spec =
     (tie.spec
     Inv-loop
     μ-loop
+    cast-k
     loop-holds
     mul-out-row
-    element-copy-out-out-row
+    array-read-out-row
     cast-out-row
     out-row-requires
     mul-out-rows
@@ -103,8 +96,4 @@ head-of-spec =
     add-j
     loop-less
     loop-again
-    names-zero-requires
-    cast-t20
-    add-t21
-    cast-t22
     returns)
