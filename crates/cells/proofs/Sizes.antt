@@ -11,7 +11,7 @@ use Rattle.common.specs.Limits.{maxRows, maxColumns, maxSwitches, maxOutputs}
 use Rattle.common.specs.Lists.{all-of}
 use Rattle.common.proofs.Lists.{and-left, and-right}
 use Rattle.cells.specs.declared.Crossbar.{Crossbar}
-use Rattle.cells.specs.Record.{inRange, size, sound}
+use Rattle.cells.specs.Record.{inRange, Whole, size, sound}
 use Rattle.cells.specs.Setting.{isSetting}
 
 -- sizes in range, as plain facts
@@ -102,3 +102,7 @@ sound-facts x cells h =
 pub setting-length : (v : ℕ) (s : List ℕ) → isSetting v s ≡ true → length s ≡ v
 unfolding isSetting
 setting-length v s h = eqb-true (length s) v (and-left (eqb (length s) v) (all-of (λ b. leb b 1) s) h)
+
+-- a crossbar has at most 128 · 128 cells
+abbrev pub CellsMost : Whole → Type 0
+CellsMost w = size (w .head) ≤ maxRows * maxColumns

@@ -29,6 +29,10 @@ lowest [] = 0
 lowest ((k when true) ∷ gs) = k
 lowest ((k when false) ∷ gs) = lowest gs
 
+-- the largest number of a ground
+unfoldable pub mostNumber : ℕ
+mostNumber = 15
+
 -- what is to follow, unless there is a number: then the refusal with that number and this line
 unfoldable pub unless : {A : Type 0} → (number line : ℕ) → Outcome A → Outcome A
 unless zero line rest = rest

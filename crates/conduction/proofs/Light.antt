@@ -4,14 +4,18 @@ use mathlib.Core.Path.{_≡_, refl}
 use mathlib.Core.Logic.{⊎-elim}
 use mathlib.Core.Bool.{Bool, true, false, not}
 use mathlib.Core.List.{List, [], _∷_}
+use native.Mathlib.Omega.{arith}
 use lib.Dec.{leb, ltb}
 use borrow.Author.Tests.{leb-true, ltb-false, le-ltb, not-false}
-use Rattle.common.specs.Outcome.{Outcome, done, Ground, _when_, lowest, unless}
+use Rattle.common.specs.Limits.{maxRows, maxColumns}
+use Rattle.common.specs.Outcome.{Outcome, done, Ground, _when_, lowest, mostNumber, unless}
 use Rattle.common.proofs.Lists.{by-test, true-or-false}
 use Rattle.common.proofs.Outcome.{unless-done, not-met, others}
+use Rattle.common.proofs.Within.{EndsWithin, ends-done, unless-ends, within, mostLine}
 use Rattle.cells.specs.declared.Crossbar.{Crossbar}
 use Rattle.cells.specs.Record.{inRange, sound}
 use Rattle.cells.specs.Setting.{isSetting}
+use Rattle.cells.proofs.Sizes.{sound-facts}
 use Rattle.conduction.specs.Round.{rounds, roundCount, atRest}
 use Rattle.conduction.specs.Chain.{place}
 use Rattle.conduction.specs.Light.{Lit, joined, litBy, light}
@@ -114,3 +118,15 @@ module _ (x : Crossbar) (cells setting : List ℕ) (room : ℕ) where
         le-ltb room (x .rows + x .columns) r,
         settles (x .rows) (x .columns) (joined x cells setting) (sound-row x cells s),
       )
+
+-- how light ends
+pub lit-ends :
+    (x : Crossbar) (cells setting : List ℕ) (room : ℕ)
+    → EndsWithin (λ (a : Lit). a .count ≤ maxRows + maxColumns - 1) mostLine (light x cells setting room)
+unfolding light litBy maxRows maxColumns within mostNumber
+lit-ends x cells setting room =
+    unless-ends _ 0 _ refl (omega arith)
+    (λ z.
+    let f = sound-facts x cells (not-false (sound x cells) (not-met 11 (not (sound x cells)) _ z)) in
+    let most = count-at-most (x .rows) (x .columns) (joined x cells setting) in
+    ends-done (omega (arith, f .sizes .rows-most, f .sizes .columns-most)))

@@ -6,7 +6,7 @@ use mathlib.Core.List.{List}
 use lib.ListN.{length}
 use Rattle.common.specs.declared.Refusal.{Refusal}
 use Rattle.common.specs.Lists.{zeros}
-use Rattle.common.specs.Outcome.{Outcome, refusalOf, valueOf, bufferOf, Answered}
+use Rattle.common.specs.Outcome.{Outcome, refusalOf, valueOf, bufferOf, Answered, mostNumber}
 use Rattle.cells.specs.declared.Crossbar.{Crossbar}
 use Rattle.jobs.specs.declared.Walked.{Walked}
 use Rattle.jobs.specs.Answer.{walked}
@@ -16,15 +16,18 @@ use Rattle.conduction.specs.Light.{light, lighted}
 use Rattle.listings.specs.declared.printing.Printed.{Printed}
 use Rattle.listings.specs.Listing.{print}
 use Rattle.listings.specs.Printing.{printed}
+use Rattle.common.proofs.Within.{EndsWithin, number-most}
+use Rattle.jobs.proofs.Refusals.{walk-ends}
+use Rattle.conduction.proofs.Light.{lit-ends}
+use Rattle.listings.proofs.Refusals.{printed-ends}
 use Rattle.crossbar.specs.Bytes.{holdsRecord, recordFrom}
-use Rattle.crossbar.specs.Host.{numberUnit, packed, mostNumber, packedFrom, ofRecord, hostLight, hostPrint, LightCall, PrintCall}
+use Rattle.crossbar.specs.Host.{numberUnit, packed, packedFrom, ofRecord, hostLight, hostPrint, LightCall, PrintCall}
 use Rattle.crossbar.proofs.Records.{none-held, one-held}
-use Rattle.crossbar.proofs.Numbers.{ByGround, packed-is, number-most}
-use Rattle.crossbar.proofs.Ends.{by-ground, lit-ends, printed-ends, walk-ends}
+use Rattle.crossbar.proofs.Numbers.{packed-is}
 
 -- the answer from what a call beneath hands over
-answered : {A : Type 0} (value : A → ℕ) (o : Outcome A) (refusal : Refusal) (v r : ℕ)
-    → ByGround o → refusal ≡ refusalOf o → v ≡ valueOf 0 value o → r ≡ packedFrom refusal v → r ≡ packed value o
+answered : {A : Type 0} {P : A → Type 0} {b : ℕ} (value : A → ℕ) (o : Outcome A) (refusal : Refusal) (v r : ℕ)
+    → EndsWithin P b o → refusal ≡ refusalOf o → v ≡ valueOf 0 value o → r ≡ packedFrom refusal v → r ≡ packed value o
 answered value o refusal v r p e f h = rw (h, e, f) (sym (packed-is value o p))
 
 -- a slice that holds no record is refused
@@ -62,7 +65,7 @@ module _ (x : Crossbar) (cells setting before after : List ℕ) (lit : Lighted) 
   unfolding lighted
   light-numbers =
       let o = light x cells setting (length before) in
-      rw (a .answer) (number-most o (by-ground _ (lit-ends x cells setting (length before))))
+      rw (a .answer) (number-most o (lit-ends x cells setting (length before)))
 
   pub light-answered :
       (s : List ℕ) (r : ℕ)
@@ -75,7 +78,7 @@ module _ (x : Crossbar) (cells setting before after : List ℕ) (lit : Lighted) 
       let o = light x cells setting (length before) in
       rw (one-held s (light (recordFrom s) cells setting (length before)) h, ← e)
       (record {
-        answer = answered (λ a. a .count) o (lit .refusal) (lit .rounds) r (by-ground _ (lit-ends x cells setting (length before)))
+        answer = answered (λ a. a .count) o (lit .refusal) (lit .rounds) r (lit-ends x cells setting (length before))
             (ap (λ (l : Lighted). l .refusal) (a .answer)) (ap (λ (l : Lighted). l .rounds) (a .answer)) f;
         buffer = a .buffer;
       })
@@ -83,7 +86,7 @@ module _ (x : Crossbar) (cells setting before after : List ℕ) (lit : Lighted) 
 module _ (x : Crossbar) (cells : List ℕ) (room : ℕ) (p : Printed) (after : List ℕ) (a : Answered (print x cells room) printed (λ t. t) room p after) where
   pub print-numbers : p .refusal .number ≤ mostNumber
   unfolding printed
-  print-numbers = rw (a .answer) (number-most (print x cells room) (by-ground _ (printed-ends x cells room)))
+  print-numbers = rw (a .answer) (number-most (print x cells room) (printed-ends x cells room))
 
   pub print-answered :
       (s : List ℕ) (r : ℕ)
@@ -95,7 +98,7 @@ module _ (x : Crossbar) (cells : List ℕ) (room : ℕ) (p : Printed) (after : L
   print-answered s r h e f =
       rw (one-held s (print (recordFrom s) cells room) h, ← e)
       (record {
-        answer = answered length (print x cells room) (p .refusal) (p .length) r (by-ground _ (printed-ends x cells room))
+        answer = answered length (print x cells room) (p .refusal) (p .length) r (printed-ends x cells room)
             (ap (λ (l : Printed). l .refusal) (a .answer)) (ap (λ (l : Printed). l .length) (a .answer)) f;
         buffer = a .buffer;
       })
@@ -103,10 +106,10 @@ module _ (x : Crossbar) (cells : List ℕ) (room : ℕ) (p : Printed) (after : L
 module _ (text setting : List ℕ) (output : ℕ) (w : Walked) (a : w ≡ walked (walk text setting output)) where
   pub walk-numbers : w .refusal .number ≤ mostNumber
   unfolding walked
-  walk-numbers = rw a (number-most (walk text setting output) (by-ground _ (walk-ends text setting output)))
+  walk-numbers = rw a (number-most (walk text setting output) (walk-ends text setting output))
 
   pub walk-answered : (r : ℕ) → r ≡ packedFrom (w .refusal) (w .value) → r ≡ packed (λ v. v) (walk text setting output)
   unfolding walked
   walk-answered r f =
-      answered (λ v. v) (walk text setting output) (w .refusal) (w .value) r (by-ground _ (walk-ends text setting output))
+      answered (λ v. v) (walk text setting output) (w .refusal) (w .value) r (walk-ends text setting output)
       (ap (λ (q : Walked). q .refusal) a) (ap (λ (q : Walked). q .value) a) f

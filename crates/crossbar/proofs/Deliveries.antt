@@ -8,7 +8,7 @@ use lib.ListN.{length}
 use borrow.Author.Tests.{lt-ltb, le-ltb, eq-eqb, ne-eqb}
 use Rattle.common.specs.declared.Refusal.{Refusal}
 use Rattle.common.specs.Lists.{zeros, padded}
-use Rattle.common.specs.Outcome.{Outcome, done, refused, _then_, lowest, unless, numberOf, lineOf, refusalOf, valueOf, bufferOf, Answered}
+use Rattle.common.specs.Outcome.{Outcome, done, refused, _then_, lowest, unless, numberOf, lineOf, refusalOf, valueOf, bufferOf, Answered, mostNumber}
 use Rattle.common.proofs.Lists.{below-or-not}
 use Rattle.cells.specs.declared.Crossbar.{Crossbar}
 use Rattle.cells.specs.Record.{Whole, no-record, size}
@@ -19,10 +19,12 @@ use Rattle.listings.specs.declared.loading.Loaded.{Loaded}
 use Rattle.listings.specs.Loading.{load}
 use Rattle.listings.specs.Loader.{loaded}
 use Rattle.crossbar.specs.Bytes.{recordLength, recordBytes}
-use Rattle.crossbar.specs.Host.{numberUnit, packed, mostNumber, packedFrom, delivery, cellsLeft, forRecord, cellsDue, Delivered}
-use Rattle.crossbar.proofs.Numbers.{ByGround, of-refused, number-most}
+use Rattle.crossbar.specs.Host.{numberUnit, packed, packedFrom, delivery, cellsLeft, forRecord, cellsDue, Delivered}
+use Rattle.common.proofs.Within.{EndsWithin, ends-refused, mostLine, number-most}
+use Rattle.cells.proofs.Sizes.{CellsMost}
+use Rattle.placement.proofs.Maps.{mapped-ends}
+use Rattle.listings.proofs.Refusals.{loaded-ends}
 use Rattle.common.proofs.Outcome.{unless-some}
-use Rattle.crossbar.proofs.Ends.{by-ground, mapped-ends, loaded-ends}
 
 -- the outcome of a delivery: a refusal from beneath, a record's buffer that is too short, or the record
 module _ (refusal : Refusal) (x : Crossbar) (n : ℕ) where
@@ -82,7 +84,7 @@ module _ (refusal : Refusal) (n : ℕ) (held : List ℕ) where
 
 -- what map and load hand over to it
 pub record Beneath (o : Outcome Whole) (m : ℕ) (refusal : Refusal) (x : Crossbar) (cells : List ℕ) : Type 0 where
-  pub numbered : ByGround o
+  pub numbered : EndsWithin CellsMost mostLine o
   pub low : refusal .number ≤ mostNumber
   pub refusal-is : refusal ≡ refusalOf o
   pub record-is : x ≡ valueOf no-record (λ w. w .head) o
@@ -95,7 +97,7 @@ pub map-beneath :
 unfolding mapped
 map-beneath text before after r a =
     let o = mapJob text (length before) in
-    let numbered = by-ground _ (mapped-ends text (length before)) in
+    let numbered = mapped-ends text (length before) in
     record {
       numbered = numbered;
       low = rw (a .answer) (number-most o numbered);
@@ -111,7 +113,7 @@ pub load-beneath :
 unfolding loaded
 load-beneath text room r cells a =
     let o = load text room in
-    let numbered = by-ground _ (loaded-ends text room) in
+    let numbered = loaded-ends text room in
     record {
       numbered = numbered;
       low = rw (a .answer) (number-most o numbered);
@@ -148,8 +150,8 @@ unfolding packed bufferOf cellsDue
 both-done w n m r head cells a z =
     record { to-record = record { answer = a .answer; buffer = a .buffer }; to-cells = record { answer = a .answer; buffer = z } }
 
-least : (k l : ℕ) → ByGround {A = Whole} (refused k l) → 1 ≤ k
-least k l (of-refused low high) = low
+least : (k l : ℕ) → EndsWithin CellsMost mostLine (refused k l) → 1 ≤ k
+least k l (ends-refused low high n) = low
 
 -- the delivery of a crossbar
 pub delivered :

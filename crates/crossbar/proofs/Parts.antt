@@ -8,7 +8,9 @@ use Rattle.common.specs.Outcome.{Outcome, done, refused, numberOf}
 use Rattle.jobs.specs.Job.{walk}
 use Rattle.crossbar.specs.Host.{numberUnit, packed, cellsDue, hostMap, hostLoad, hostLight, hostPrint}
 use Rattle.crossbar.specs.Parts.{numberPart, lowPart, Parts, CallsRead}
-use Rattle.crossbar.proofs.Ends.{EndsWithin, ends-done, ends-refused, mostLine, map-ends, walk-ends, light-ends, print-ends, load-ends}
+use Rattle.common.proofs.Within.{EndsWithin, ends-done, ends-refused, mostLine}
+use Rattle.jobs.proofs.Refusals.{walk-ends}
+use Rattle.crossbar.proofs.Ends.{map-ends, light-ends, print-ends, load-ends}
 
 -- where values up to `most` and lines up to b are below 2 to the 56th, an outcome is read back from its answer
 pub parts :
@@ -40,7 +42,7 @@ parts value most b (refused k n) small short (ends-refused low high l) =
     }
 
 pub calls-read : CallsRead
-unfolding hostMap hostLoad hostLight hostPrint mostLine maxRows maxColumns maxNodes maxOutputs maxText
+unfolding hostMap hostLoad hostLight hostPrint cellsDue mostLine maxRows maxColumns maxNodes maxOutputs maxText
 calls-read =
     record {
       of-map =

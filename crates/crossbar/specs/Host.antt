@@ -28,10 +28,6 @@ unfoldable pub packed : {A : Type 0} → (A → ℕ) → Outcome A → ℕ
 packed value (done a) = value a
 packed value (refused k n) = k * numberUnit + n
 
--- the largest number of a refusal
-unfoldable pub mostNumber : ℕ
-mostNumber = 15
-
 -- the same number from the refusal, whose number is 0 where nothing is refused, and the value that a call hands over
 unfoldable pub packedFrom : Refusal → ℕ → ℕ
 packedFrom r value = packed (λ v. v) (unless (r .number) (r .line) (done value))

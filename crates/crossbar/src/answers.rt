@@ -8,10 +8,10 @@ ghost use mathlib.Core.Path.{_≡_};
 ghost use Prim.Native.Nat.{_*_, _≤_};
 ghost use lib.ListN.{length};
 ghost use Rattle.common.specs.Lists.{zeros};
-ghost use Rattle.common.specs.Outcome.{Answered};
+ghost use Rattle.common.specs.Outcome.{Answered, mostNumber};
 ghost use Rattle.cells.specs.Record.{size};
 ghost use Rattle.crossbar.specs.Bytes.{recordBytes};
-ghost use Rattle.crossbar.specs.Host.{numberUnit, mostNumber, packed, packedFrom, delivery, cellsLeft};
+ghost use Rattle.crossbar.specs.Host.{numberUnit, packed, packedFrom, delivery, cellsLeft};
 
 // What the number of a refusal counts for in an answer: 2 to the 56th.
 const NUMBER_UNIT: u64 = 72057594037927936;

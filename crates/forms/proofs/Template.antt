@@ -15,6 +15,7 @@ use borrow.Author.Tests.{eqb-true, eqb-false, ne-eqb}
 use Rattle.common.specs.Lists.{all-of}
 use Rattle.common.specs.Outcome.{Outcome, done, refused}
 use Rattle.common.proofs.Lists.{by-test, and-left, and-right, and-both, below-or-not, all-of-append}
+use Rattle.common.proofs.Within.{EndsWithin, ends-done, not-the-form}
 use Rattle.figures.specs.Bytes.{bytes, after}
 use Rattle.figures.specs.Figure.{Figured, isDigit, takeFigure, decimal}
 use Rattle.figures.specs.Line.{Lines, left, _⏎_, linesOf}
@@ -595,3 +596,15 @@ no-values vs f = let w = fits-within noForm vs f in (fits-entries noForm vs f, w
 pub no-fits : (a b c : ℕ) → a < 100000 → b < 100000 → c < 100000 → FitsTemplate noForm (a ∷ b ∷ c ∷ [])
 unfolding FitsTemplate noForm
 no-fits a b c pa pb pc = (pa, (pb, (pc, tt)))
+
+-- a line that is due, number n of the text
+pub due-ends : {b : ℕ} (t : Template) (n : ℕ) (ls : Lines) → n ≤ b → EndsWithin (λ (o : Taken). n ≤ b) b (due t n ls)
+unfolding due
+due-ends {b} t n (left s) h = not-the-form h
+due-ends {b} t n (l ⏎ ls) h = by-values (values t l)
+  where
+    by-values :
+        (o : Option (List ℕ))
+        → EndsWithin (λ (o : Taken). n ≤ b) b (elim o [ none ↦ refused 1 n | some vs ↦ done (record { vals = vs; later = ls }) ])
+    by-values none = not-the-form h
+    by-values (some vs) = ends-done h

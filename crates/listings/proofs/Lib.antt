@@ -7,6 +7,7 @@ pub mod Lengths
 pub mod Loaded
 pub mod Printed
 pub mod Reader
+pub mod Refusals
 pub mod RoundTrip
 pub mod Stands
 pub mod Steps

@@ -1,6 +1,6 @@
 -- Map's answer: the refusal of the job, ground 14, or the placement of the diagram in the table.
 use Prim.Native.Nat.{ℕ, _+_, _*_, _-_, _≤_, _<_}
-use mathlib.Core.Path.{_≡_, sym, ap, _∙_}
+use mathlib.Core.Path.{_≡_, refl, sym, ap, _∙_}
 use mathlib.Core.List.{List, []}
 use native.Mathlib.Omega.{arith}
 use lib.ListN.{length, getD, take}
@@ -8,10 +8,12 @@ use lib.Seq.{length-take-le, getD-take, take-append-seam}
 use borrow.Author.Tests.{lt-ltb, le-ltb}
 use Rattle.common.specs.Limits.{maxNodes, maxIds, maxOutputs}
 use Rattle.common.specs.Lists.{zeros, padded}
-use Rattle.common.specs.Outcome.{Outcome, done, refused, _then_, lowest, unless, numberOf, lineOf, refusalOf, valueOf, bufferOf, Answered}
+use Rattle.common.specs.Outcome.{Outcome, done, refused, _then_, lowest, mostNumber, unless, numberOf, lineOf, refusalOf, valueOf, bufferOf, Answered}
 use Rattle.common.proofs.Lists.{length-padded, length-tab}
+use Rattle.common.proofs.Within.{EndsWithin, ends-done, then-ends, unless-ends, within, mostLine}
 use Rattle.cells.specs.declared.Crossbar.{Crossbar}
 use Rattle.cells.specs.Record.{Whole, size}
+use Rattle.cells.proofs.Sizes.{CellsMost}
 use Rattle.diagram.specs.declared.WireTable.{WireTable}
 use Rattle.diagram.specs.Diagram.{Diagram, idCount}
 use Rattle.diagram.specs.Table.{entryIn, tabled, WireNumbers}
@@ -23,6 +25,7 @@ use Rattle.jobs.specs.Job.{accepted}
 use Rattle.jobs.specs.Answer.{jobOf, jobRead}
 use Rattle.jobs.specs.Spread.{flat}
 use Rattle.jobs.proofs.Accepted.{accepted-job}
+use Rattle.jobs.proofs.Refusals.{accepted-ends}
 use Rattle.jobs.proofs.Spread.{flat-terminals, flat-tabled}
 use Rattle.jobs.proofs.Whole.{read-done}
 use Rattle.jobs.proofs.Walks.{read-is}
@@ -175,3 +178,10 @@ module _ (s : List ℕ) (r : JobRead) (t : List ℕ) (read : Answered (accepted 
     unfolding mapJob _then_ placedInto
     map-is room =
         let found = read-done s r (read .answer) none in rw (found .1, held-is (found .0) (found .1))
+
+-- how map ends
+pub mapped-ends : (s : List ℕ) (m : ℕ) → EndsWithin CellsMost mostLine (mapJob s m)
+unfolding mapJob crossbar size within mostNumber
+mapped-ends s m =
+    then-ends (accepted s) _ (accepted-ends s)
+    (λ d most. unless-ends _ 0 _ refl (omega arith) (λ z. ends-done most))

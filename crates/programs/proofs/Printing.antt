@@ -1,12 +1,10 @@
 -- What each program prints, step by step: what a refusal of each call says, and what follows where it is done.
-use Prim.Native.Nat.{ℕ, zero, suc, _+_, _-_, _*_, _≤_, _<_}
+use Prim.Native.Nat.{ℕ, suc, _+_, _-_, _*_, _≤_, _<_}
 use mathlib.Core.Path.{_≡_, refl, sym, ap, _∙_}
 use mathlib.Core.Logic.{⊎-elim}
 use mathlib.Core.Bool.{true}
-use mathlib.Core.Option.{Option, some, none}
 use mathlib.Core.List.{List, [], _∷_, _++_}
 use native.Mathlib.Omega.{arith}
-use native.Mathlib.Nat.{mul-le-mul}
 use lib.ListN.{length, take, drop, length-append, length-replicate}
 use borrow.Author.Tests.{lt-ltb, le-ltb}
 use Rattle.common.specs.Limits.{maxRows, maxColumns, maxSwitches, maxOutputs, maxInput}
@@ -14,30 +12,29 @@ use Rattle.common.specs.Lists.{zeros, padded}
 use Rattle.common.specs.Outcome.{Outcome, done, refused, _then_, lowest, unless, numberOf, lineOf, Answered}
 use Rattle.common.proofs.Lists.{below-or-not, getD-before-zeros}
 use Rattle.common.proofs.Outcome.{then-done, unless-done}
-use Rattle.figures.specs.Line.{Lines, left, _⏎_, linesOf, lineEnd}
+use Rattle.common.proofs.Within.{EndsWithin, ends-done, ends-refused, zero-done}
+use Rattle.figures.specs.Line.{Lines, left, linesOf, lineEnd}
 use Rattle.figures.proofs.Ends.{line-left}
 use Rattle.cells.specs.declared.Crossbar.{Crossbar}
 use Rattle.cells.specs.Record.{Whole, size, sound}
-use Rattle.cells.proofs.Sizes.{in-range}
-use Rattle.forms.specs.Form.{Placed, placed}
 use Rattle.forms.specs.Template.{line}
-use Rattle.forms.specs.Due.{Taken, due}
-use Rattle.forms.specs.Forms.{refusedForm, outForm, endForm, crossbarForm}
+use Rattle.forms.specs.Due.{Taken}
+use Rattle.forms.specs.Forms.{refusedForm}
 use Rattle.forms.proofs.LineReads.{lines-after}
 use Rattle.jobs.specs.Job.{accepted}
 use Rattle.jobs.proofs.Accepted.{accepted-job}
-use Rattle.jobs.proofs.Refusals.{Named, named-done, named-refused, named-then, named-unless, named-due, named-accepted, by-number}
 use Rattle.placement.specs.Map.{mapJob}
 use Rattle.placement.specs.Placement.{cells, crossbar}
+use Rattle.placement.proofs.Maps.{mapped-ends}
 use Rattle.placement.proofs.Sound.{mapped-sound, cells-count}
 use Rattle.conduction.specs.Light.{Lit, light}
-use Rattle.conduction.proofs.Light.{light-answers}
+use Rattle.conduction.proofs.Light.{light-answers, lit-ends}
 use Rattle.listings.specs.declared.printing.Printed.{Printed}
 use Rattle.listings.specs.Listing.{listing, print}
 use Rattle.listings.specs.Printing.{printed}
-use Rattle.listings.specs.Loading.{Listed, loadEnd, loadOuts, loadCells, cellFault, withCell, loadFrom, recordOf, cellsOf, loadAt}
+use Rattle.listings.specs.Loading.{Listed, loadFrom, recordOf, cellsOf, loadAt}
 use Rattle.listings.proofs.Answers.{outputs-in}
-use Rattle.listings.proofs.Loaded.{told}
+use Rattle.listings.proofs.Refusals.{FewCells, listing-ends}
 use Rattle.listings.proofs.RoundTrip.{print-zeros}
 use Rattle.programs.specs.Programs.{programText, inputFits, mapProgram, setLine, readsLines, readings, lightAndRead, lightProgram}
 use Rattle.programs.specs.Setting.{setOf}
@@ -88,12 +85,8 @@ map-maps s room w h =
     in
     rw same at m
 
-named-map : (s : List ℕ) (room : ℕ) → Named (mapJob s room)
-unfolding mapJob
-named-map s room = named-then (accepted s) _ (named-accepted s) (λ d. named-unless _ _ _ (named-done _))
-
 pub map-done : (s : List ℕ) (room : ℕ) → numberOf (mapJob s room) ≡ 0 → (w : Whole) × (mapJob s room ≡ done w)
-map-done s room h = by-number (mapJob s room) (named-map s room) h
+map-done s room h = let found = zero-done (mapJob s room) (mapped-ends s room) h in (found .0, found .1)
 
 module _ (s : List ℕ) (short : length s ≤ maxInput) where
   pub map-refused :
@@ -160,8 +153,7 @@ module _ (x : Crossbar) (codes setting : List ℕ) where
   light-refused h = refused-then lit _ h
 
   pub light-done : numberOf lit ≡ 0 → (a : Lit) × (lit ≡ done a)
-  unfolding light
-  light-done h = by-number lit (named-unless _ _ _ (named-done _)) h
+  light-done h = let found = zero-done lit (lit-ends x codes setting (maxRows + maxColumns)) h in (found .0, found .1)
 
   pub light-outputs : (a : Lit) → lit ≡ done a → x .outputs ≤ maxOutputs
   light-outputs a h = outputs-in x codes (light-answers x codes setting (maxRows + maxColumns) a h .record-sound)
@@ -182,57 +174,22 @@ module _ (x : Crossbar) (codes setting : List ℕ) where
   unfolding lightAndRead
   light-padded n h = rw (light-same x codes n setting (maxRows + maxColumns) h)
 
--- the listing of the second program: no refusal has number 0
-named-load-end : (x : Listed) (n : ℕ) (ls : Lines) → Named (loadEnd x n ls)
-unfolding loadEnd
-named-load-end x n ls = named-then (due endForm n ls) _ (named-due endForm n ls) (λ o. named-unless _ _ _ (named-done _))
-
-named-load-outs : (k : ℕ) (x : Listed) (n : ℕ) (ls : Lines) → Named (loadOuts k x n ls)
-unfolding loadOuts
-named-load-outs zero x n ls = named-load-end x n ls
-named-load-outs (suc k) x n ls =
-    named-then (due outForm n ls) _ (named-due outForm n ls) (λ o. named-unless _ _ _ (named-load-outs k _ (n + 1) (o .later)))
-
-named-load-cells : (x : Listed) (n : ℕ) (ls : Lines) → Named (loadCells x n ls)
-unfolding loadCells
-named-load-cells x n (left s) = named-refused 0 n
-named-load-cells x n (l ⏎ ls) =
-    by (placed l) (λ p. named-load-cells (withCell x p) (n + 1) ls) (named-load-outs (x .outputs) x n (l ⏎ ls))
-  where
-    by :
-        (o : Option Placed)
-        → ((p : Placed) → Named (loadCells (withCell x p) (n + 1) ls))
-        → Named (loadOuts (x .outputs) x n (l ⏎ ls))
-        → Named {A = Listed}
-        (elim o [
-          | some p ↦ unless (cellFault x p) n (loadCells (withCell x p) (n + 1) ls)
-          | none ↦ loadOuts (x .outputs) x n (l ⏎ ls)
-        ])
-    by none cells outs = outs
-    by (some p) cells outs = named-unless (cellFault x p) n (loadCells (withCell x p) (n + 1) ls) (cells p)
-
-named-load-from : (n : ℕ) (ls : Lines) → Named (loadFrom n ls)
-unfolding loadFrom
-named-load-from n ls =
-    named-then (due crossbarForm n ls) _ (named-due crossbarForm n ls) (λ o. named-unless _ _ _ (named-load-cells _ (n + 1) (o .later)))
-
 -- the crossbar of a listing
 abbrev pub whole : Listed → Whole
 whole y = record { head = recordOf y; codes = cellsOf y }
 
 -- its cells fit into the program's buffer
 module _ (t : List ℕ) (n : ℕ) where
-  load-size : (y : Listed) → loadFrom n (linesOf t) ≡ done y → size (recordOf y) ≤ maxRows * maxColumns
-  unfolding size recordOf
-  load-size y h =
-      let d = told t n y h in
-      let s = in-range (d .rows) (d .columns) (d .switches) (d .outputs) (d .within .range) in
-      let small : d .rows * d .columns ≤ maxRows * maxColumns = mul-le-mul (s .rows-most) (s .columns-most) in
-      rw (← (d .result)) small
+  abbrev Ends : Outcome Listed → Type 0
+  Ends = EndsWithin FewCells (n + maxRows * maxColumns + maxOutputs + 2)
 
-  load-fits : (y : Listed) → loadFrom n (linesOf t) ≡ done y → loadAt n (linesOf t) (maxRows * maxColumns) ≡ done (whole y)
-  unfolding _then_ lowest unless
-  load-fits y h = rw (h, le-ltb (maxRows * maxColumns) (size (recordOf y)) (load-size y h))
+  ends : Ends (loadFrom n (linesOf t))
+  ends = listing-ends (n + maxRows * maxColumns + maxOutputs + 2) n (omega arith) (linesOf t)
+
+  load-fits :
+      (y : Listed) → FewCells y → loadFrom n (linesOf t) ≡ done y → loadAt n (linesOf t) (maxRows * maxColumns) ≡ done (whole y)
+  unfolding _then_ lowest unless size recordOf
+  load-fits y few h = rw (h, le-ltb (maxRows * maxColumns) (size (recordOf y)) few)
 
   pub load-refused :
       (f : Listed → Outcome (List ℕ))
@@ -240,31 +197,33 @@ module _ (t : List ℕ) (n : ℕ) where
       → refusedLine (numberOf (loadAt n (linesOf t) (maxRows * maxColumns))) (lineOf (loadAt n (linesOf t) (maxRows * maxColumns)))
       ≡ programText (loadFrom n (linesOf t) then f)
   unfolding refusedLine programText _then_ numberOf lineOf
-  load-refused f h = by (loadFrom n (linesOf t)) refl
+  load-refused f h = by (loadFrom n (linesOf t)) ends refl
     where
       by :
           (o : Outcome Listed)
+          → Ends o
           → loadFrom n (linesOf t) ≡ o
           → refusedLine (numberOf (loadAt n (linesOf t) (maxRows * maxColumns))) (lineOf (loadAt n (linesOf t) (maxRows * maxColumns)))
           ≡ programText (loadFrom n (linesOf t) then f)
-      by (done y) e = absurd (h (ap numberOf (load-fits y e)))
-      by (refused k l) e = rw e
+      by (done y) (ends-done few) e = absurd (h (ap numberOf (load-fits y few e)))
+      by (refused k l) (ends-refused low high m) e = rw e
 
   pub load-done :
       numberOf (loadAt n (linesOf t) (maxRows * maxColumns)) ≡ 0
       → (y : Listed) × (loadFrom n (linesOf t) ≡ done y) × (loadAt n (linesOf t) (maxRows * maxColumns) ≡ done (whole y))
   unfolding numberOf _then_
-  load-done h = by (loadFrom n (linesOf t)) refl
+  load-done h = by (loadFrom n (linesOf t)) ends refl
     where
       by :
           (o : Outcome Listed)
+          → Ends o
           → loadFrom n (linesOf t) ≡ o
           → (y : Listed) × (loadFrom n (linesOf t) ≡ done y) × (loadAt n (linesOf t) (maxRows * maxColumns) ≡ done (whole y))
-      by (done y) e = (y, e, load-fits y e)
-      by (refused k l) e =
+      by (done y) (ends-done few) e = (y, e, load-fits y few e)
+      by (refused k l) (ends-refused low high m) e =
           let z : loadAt n (linesOf t) (maxRows * maxColumns) ≡ refused k l = rw e in
           let q : k ≡ 0 = sym (ap numberOf z) ∙ h in
-          absurd (named-load-from n (linesOf t) l (e ∙ ap (λ (m : ℕ). refused m l) q))
+          absurd (omega arith)
 
 cells-long : (y : Listed) → size (recordOf y) ≤ length (cellsOf y)
 unfolding size recordOf cellsOf padded

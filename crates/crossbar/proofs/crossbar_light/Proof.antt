@@ -1,6 +1,6 @@
 -- `crossbar::crossbar_light` meets its contract: a slice that holds no record is refused, and otherwise light answers.
 use Rattle.cells.proofs.Every.{held, broken}
-use Rattle.crossbar.specs.Host.{mostNumber}
+use Rattle.common.specs.Outcome.{mostNumber}
 use Rattle.crossbar.proofs.Calls.{light-refused, light-numbers, light-answered}
 use Rattle.crossbar.proofs.Records.{holds-enough}
 use borrow.Author.Needs.{needs}

@@ -1,7 +1,7 @@
 -- `crossbar::crossbar_print` meets its contract: a slice that holds no record is refused, and otherwise print answers.
 use lib.ListN.{length}
 use Rattle.cells.proofs.Every.{held, broken}
-use Rattle.crossbar.specs.Host.{mostNumber}
+use Rattle.common.specs.Outcome.{mostNumber}
 use Rattle.crossbar.proofs.Calls.{print-refused, print-numbers, print-answered}
 use Rattle.crossbar.proofs.Records.{holds-enough}
 use borrow.Author.Needs.{needs}

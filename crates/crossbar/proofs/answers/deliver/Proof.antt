@@ -6,7 +6,7 @@ use native.Mathlib.Nat.{mul-le-mul-right}
 use lib.ListN.{length}
 use Rattle.common.specs.Limits.{maxOutputs}
 use Rattle.crossbar.specs.Bytes.{recordLength}
-use Rattle.crossbar.specs.Host.{mostNumber}
+use Rattle.common.specs.Outcome.{mostNumber}
 use Rattle.crossbar.proofs.Deliveries.{written-refused, written-short, written-done, left-refused, left-short, left-done}
 use borrow.Author.Needs.{needs}
 use Rattle.crossbar.proofs.answers.deliver.Statement.{statement}

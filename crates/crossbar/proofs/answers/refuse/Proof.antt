@@ -1,6 +1,6 @@
 -- `crossbar::answers::refuse` meets its contract: a number of at most 15 fits.
 use borrow.Author.Needs.{needs}
-use Rattle.crossbar.specs.Host.{mostNumber}
+use Rattle.common.specs.Outcome.{mostNumber}
 use Rattle.crossbar.proofs.answers.refuse.Statement.{statement}
 use Rattle.crossbar.proofs.answers.refuse.Tie as tie
 

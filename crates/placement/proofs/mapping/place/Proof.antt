@@ -1,6 +1,5 @@
 -- `placement::mapping::place` meets its contract: ground 14, or the buffer is filled.
 use borrow.Author.Needs.{needs}
-use mathlib.Core.Path.{sym}
 use Rattle.placement.proofs.Maps.{place-short, place-fits, place-done}
 use Rattle.placement.proofs.mapping.place.Statement.{statement}
 use Rattle.placement.proofs.mapping.place.Tie as tie

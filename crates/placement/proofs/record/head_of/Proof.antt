@@ -1,6 +1,6 @@
 -- `placement::record::head_of` meets its contract: before each output the rows of those before it are in the table.
 use Prim.Native.Nat.{_-_, _≤_, _<_}
-use mathlib.Core.Path.{_≡_, refl, _∙_}
+use mathlib.Core.Path.{_≡_, refl}
 use mathlib.Core.List.{map}
 use native.Mathlib.Omega.{arith}
 use lib.ListN.{length, take, length-set}
