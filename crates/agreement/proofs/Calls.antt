@@ -4,6 +4,7 @@ use mathlib.Core.Path.{_≡_, sym, ap, _∙_}
 use mathlib.Core.Logic.{_↔_, Iff·trans, Iff·symm}
 use mathlib.Core.Bool.{true}
 use mathlib.Core.List.{List, []}
+use native.Mathlib.Omega.{arith}
 use lib.ListN.{length, getD, take}
 use lib.Dec.{ltb}
 use borrow.Author.Tests.{ltb-false}
@@ -175,7 +176,7 @@ module _ (text : List ℕ) (d : Diagram) (taken : accepted text ≡ done d) wher
         record {
           record-long = rw filled-record long;
           record-held = rw (filled-record, front-record);
-          cells-long = rw (filled-cells, size-is) fits;
+          cells-long = omega (arith, filled-cells, size-is, fits);
           cells-held = rw (filled-cells, front-cells);
         }
 

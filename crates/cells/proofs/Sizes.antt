@@ -1,5 +1,5 @@
 -- What a record in range, a sound record and a setting have: the sizes within their limits, the cells, and a byte for each switch.
-use Prim.Native.Nat.{ℕ, _+_, _*_, _≤_}
+use Prim.Native.Nat.{ℕ, _*_, _≤_}
 use mathlib.Core.Path.{_≡_}
 use mathlib.Core.Bool.{Bool, true, _&&_}
 use mathlib.Core.List.{List}
@@ -11,7 +11,7 @@ use Rattle.common.specs.Limits.{maxRows, maxColumns, maxSwitches, maxOutputs}
 use Rattle.common.specs.Lists.{all-of}
 use Rattle.common.proofs.Lists.{and-left, and-right}
 use Rattle.cells.specs.declared.Crossbar.{Crossbar}
-use Rattle.cells.specs.Record.{inRange, Whole, size, sound}
+use Rattle.cells.specs.Record.{codesLow, inRange, Whole, size, sound}
 use Rattle.cells.specs.Setting.{isSetting}
 
 -- sizes in range, as plain facts
@@ -64,7 +64,7 @@ pub sound-by :
     → inRange (x .rows) (x .columns) (x .switches) (x .outputs) ≡ a
     → leb (x .rows * x .columns) (length cells) ≡ b
     → all-of (λ k. eqb k 0) (drop (x .rows * x .columns) cells) ≡ c
-    → all-of (λ k. leb k (1 + 2 * x .switches)) (take (x .rows * x .columns) cells) ≡ d
+    → codesLow (x .switches) (take (x .rows * x .columns) cells) ≡ d
     → all-of (λ o. ltb o (x .rows)) (take (x .outputs) (x .outs)) ≡ e
     → all-of (λ o. eqb o 0) (drop (x .outputs) (x .outs)) ≡ f
     → sound x cells ≡ a && b && c && d && e && f
@@ -77,7 +77,7 @@ pub record Sound (x : Crossbar) (cells : List ℕ) : Type 0 where
   pub sizes : SizesInRange (x .rows) (x .columns) (x .switches) (x .outputs)
   pub enough : size x ≤ length cells
   pub past : all-of (λ b. eqb b 0) (drop (size x) cells) ≡ true
-  pub codes-low : all-of (λ k. leb k (1 + 2 * x .switches)) (take (size x) cells) ≡ true
+  pub codes-low : codesLow (x .switches) (take (size x) cells) ≡ true
   pub rows-low : all-of (λ r. ltb r (x .rows)) (take (x .outputs) (x .outs)) ≡ true
   pub unused : all-of (λ r. eqb r 0) (drop (x .outputs) (x .outs)) ≡ true
 
@@ -86,7 +86,7 @@ unfolding sound
 sound-facts x cells h =
     let t =
     six (inRange (x .rows) (x .columns) (x .switches) (x .outputs)) (leb (size x) (length cells))
-    (all-of (λ b. eqb b 0) (drop (size x) cells)) (all-of (λ k. leb k (1 + 2 * x .switches)) (take (size x) cells))
+    (all-of (λ b. eqb b 0) (drop (size x) cells)) (codesLow (x .switches) (take (size x) cells))
     (all-of (λ r. ltb r (x .rows)) (take (x .outputs) (x .outs))) (all-of (λ r. eqb r 0) (drop (x .outputs) (x .outs))) h in
     record {
       range = t .0;

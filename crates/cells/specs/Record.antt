@@ -26,6 +26,10 @@ no-record = record { rows = 0; columns = 0; switches = 0; outputs = 0; outs = ze
 unfoldable pub inRange : ℕ → ℕ → ℕ → ℕ → Bool
 inRange r c v k = leb 1 r && leb r maxRows && leb c maxColumns && leb v maxSwitches && leb 1 k && leb k maxOutputs
 
+-- no "code above 1 + 2·V"
+abbrev pub codesLow : ℕ → List ℕ → Bool
+codesLow v codes = all-of (λ k. leb k (1 + 2 * v)) codes
+
 -- a record and cells that ground 12 does not refuse: the sizes in range, the slice not shorter than R·C and its bytes past it 0, no
 -- code above 1 + 2·V, each output row below R and each unused one 0
 unfoldable pub sound : Crossbar → List ℕ → Bool
@@ -33,6 +37,6 @@ sound x cells =
     inRange (x .rows) (x .columns) (x .switches) (x .outputs)
     && leb (size x) (length cells)
     && all-of (λ b. eqb b 0) (drop (size x) cells)
-    && all-of (λ k. leb k (1 + 2 * x .switches)) (take (size x) cells)
+    && codesLow (x .switches) (take (size x) cells)
     && all-of (λ r. ltb r (x .rows)) (take (x .outputs) (x .outs))
     && all-of (λ r. eqb r 0) (drop (x .outputs) (x .outs))

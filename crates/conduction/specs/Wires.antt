@@ -7,10 +7,11 @@ use mathlib.Core.List.{List}
 use lib.ListN.{length, getD, take}
 use lib.Dec.{eqb, leb, ltb}
 use Rattle.common.specs.Limits.{maxRows, maxColumns, maxSwitches}
-use Rattle.common.specs.Lists.{bit, padded, tab, some-below, all-of}
+use Rattle.common.specs.Lists.{bit, padded, tab, some-below}
 use Rattle.cells.specs.Code.{cellOf}
 use Rattle.cells.specs.Conducts.{conducts}
 use Rattle.cells.specs.Setting.{isSetting}
+use Rattle.cells.specs.Record.{codesLow}
 use Rattle.conduction.specs.First.{Rounded}
 
 -- the codes that a byte can hold
@@ -167,7 +168,7 @@ pub record LampReady (cells setting : List ℕ) (m n : ℕ) (wires : List ℕ) :
   pub rows-fit : m ≤ maxRows
   pub columns-fit : n ≤ maxColumns
   pub cells-fit : m * n ≤ length cells
-  pub codes-fit : all-of (λ k. leb k (1 + 2 * length setting)) (take (m * n) cells) ≡ true
+  pub codes-fit : codesLow (length setting) (take (m * n) cells) ≡ true
   pub switches-fit : length setting ≤ maxSwitches
   pub setting-fits : isSetting (length setting) setting ≡ true
   pub wires-fit : m + n ≤ length wires

@@ -19,7 +19,7 @@ use Rattle.cells.specs.declared.Cell.{Cell}
 use Rattle.cells.specs.declared.Cell.the-variants.{Off, On, Yes, No}
 use Rattle.cells.specs.declared.Crossbar.{Crossbar}
 use Rattle.cells.specs.Code.{codeOf, cellOf}
-use Rattle.cells.specs.Record.{size, sound}
+use Rattle.cells.specs.Record.{codesLow, size, sound}
 use Rattle.cells.proofs.Codes.{cell-code}
 use Rattle.cells.proofs.Sizes.{sound-facts}
 use Rattle.forms.specs.Template.{written, line}
@@ -74,18 +74,18 @@ cells-most :
     → n < 1000
     → v ≤ maxSwitches
     → p + length codes ≤ m * n
-    → all-of (λ k. leb k (1 + 2 * v)) codes ≡ true
+    → codesLow v codes ≡ true
     → length (cellLines n p codes) ≤ 24 * length codes
 unfolding cellLines all-of maxSwitches
 cells-most m n v p [] hm hn hv h a = omega arith
 cells-most m n v p (k ∷ codes) hm hn hv h a =
-    let low : k ≤ 1 + 2 * v = leb-true k (1 + 2 * v) (and-left (leb k (1 + 2 * v)) (all-of (λ k. leb k (1 + 2 * v)) codes) a) in
+    let low : k ≤ 1 + 2 * v = leb-true k (1 + 2 * v) (and-left (leb k (1 + 2 * v)) (codesLow v codes) a) in
     let at = placing m n p (omega arith) in
     let code : codeOf (cellOf k) < 200 = rw (cell-code k) (omega arith) in
     let row : p / n < 1000 = omega (arith, at .row-in) in
     let column : p % n < 1000 = omega (arith, at .column-in) in
     let first = cell-most (p / n) (p % n) (cellOf k) row column code in
-    let others = cells-most m n v (suc p) codes hm hn hv (omega arith) (and-right (leb k (1 + 2 * v)) (all-of (λ k. leb k (1 + 2 * v)) codes) a) in
+    let others = cells-most m n v (suc p) codes hm hn hv (omega arith) (and-right (leb k (1 + 2 * v)) (codesLow v codes) a) in
     simp length-append (omega arith)
 
 -- the lines of the outputs from output j on

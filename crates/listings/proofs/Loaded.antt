@@ -18,7 +18,7 @@ use Rattle.figures.specs.Line.{Lines, left, _⏎_, linesOf, follows}
 use Rattle.figures.proofs.Line.{textOf, follows-none, text-lines}
 use Rattle.cells.specs.declared.Cell.{Cell}
 use Rattle.cells.specs.Code.{codeOf}
-use Rattle.cells.specs.Record.{inRange, Whole, size, sound}
+use Rattle.cells.specs.Record.{codesLow, inRange, Whole, size, sound}
 use Rattle.cells.proofs.Codes.{code-cell}
 use Rattle.cells.proofs.Sizes.{in-range}
 use Rattle.forms.specs.Template.{Template, written, line}
@@ -168,7 +168,7 @@ length-with x p h =
 
 -- the codes that a cell adds are not above 1 + 2·v
 added-low :
-    (m q v : ℕ) (x : Cell) → switchBelow v x ≡ true → all-of (λ k. leb k (1 + 2 * v)) (added m q x) ≡ true
+    (m q v : ℕ) (x : Cell) → switchBelow v x ≡ true → codesLow v (added m q x) ≡ true
 unfolding all-of
 added-low m q v x h =
     let f : ℕ → Bool = λ k. leb k (1 + 2 * v) in
@@ -182,7 +182,7 @@ pub record CellsTold (x : Listed) (s : List ℕ) (y : Listed) : Type 0 where
   pub result : soFar (x .rows) (x .columns) (x .switches) (x .outputs) (x .codes ++ more) (x .outs ++ stands) ≡ y
   pub text : s ≡ cellLines (x .columns) (length (x .codes)) more ++ (outLines (length (x .outs)) stands ++ line endForm [])
   pub room : length (x .codes) + length more ≤ x .rows * x .columns
-  pub codes-low : all-of (λ k. leb k (1 + 2 * x .switches)) more ≡ true
+  pub codes-low : codesLow (x .switches) more ≡ true
   pub rows-low : all-of (λ r. ltb r (x .rows)) stands ≡ true
   pub count : length stands ≡ x .outputs
 
@@ -281,7 +281,7 @@ cells-told (l ⏎ ls) x n y h room =
 pub record CellsWithin (r c v k : ℕ) (codes stands : List ℕ) : Type 0 where
   pub range : inRange r c v k ≡ true
   pub room : length codes ≤ r * c
-  pub codes-low : all-of (λ q. leb q (1 + 2 * v)) codes ≡ true
+  pub codes-low : codesLow v codes ≡ true
   pub rows-low : all-of (λ q. ltb q r) stands ≡ true
   pub count : length stands ≡ k
 
@@ -306,7 +306,7 @@ listed-sound r c v k codes stands w =
     let enough : leb (r * c) (length (padded (r * c) codes)) ≡ true = le-leb (r * c) (length (padded (r * c) codes)) (omega arith) in
     let past : all-of (λ b. eqb b 0) (drop (r * c) (padded (r * c) codes)) ≡ true =
     rw (drop-of-length-le (padded (r * c) codes) {i = r * c} (omega arith)) (unfold all-of in refl) in
-    let low : all-of (λ q. leb q (1 + 2 * v)) (take (r * c) (padded (r * c) codes)) ≡ true =
+    let low : codesLow v (take (r * c) (padded (r * c) codes)) ≡ true =
     rw (cells-taken (r * c) codes (w .room))
     (all-of-append (λ q. leb q (1 + 2 * v)) codes (zeros (r * c - length codes)) (w .codes-low)
     (all-of-zeros (λ q. leb q (1 + 2 * v)) (r * c - length codes) (le-leb 0 (1 + 2 * v) (omega arith)))) in

@@ -19,7 +19,7 @@ use Rattle.common.proofs.Outcome.{then-is, unless-none}
 use Rattle.figures.specs.Line.{Lines, _⏎_, linesOf, follows}
 use Rattle.cells.specs.declared.Cell.the-variants.{Off}
 use Rattle.cells.specs.Code.{cellOf, codeOf}
-use Rattle.cells.specs.Record.{inRange, size, sound}
+use Rattle.cells.specs.Record.{codesLow, inRange, size, sound}
 use Rattle.cells.specs.declared.Crossbar.{Crossbar}
 use Rattle.cells.proofs.Codes.{cell-code}
 use Rattle.cells.proofs.Sizes.{SizesInRange, in-range, Sound, sound-facts}
@@ -140,7 +140,7 @@ pub cells-read :
     → (ks codes : List ℕ) (p n : ℕ)
     → length codes ≤ p
     → p + length ks ≡ r * c
-    → all-of (λ q. leb q (1 + 2 * v)) ks ≡ true
+    → codesLow v ks ≡ true
     → (more : List ℕ)
     × (padded (r * c) more ≡ padded p codes ++ ks)
     × (loadCells (soFar r c v k codes []) n (linesOf (cellLines c p ks ++ s)) ≡ done (soFar r c v k more rs))
@@ -150,7 +150,7 @@ cells-read r c v k z s rs rest [] codes p n short e small =
     (codes, rw (append-nil, e′), rest codes n)
 cells-read r c v k z s rs rest (q ∷ ks) codes p n short e small =
     let low : q ≤ 1 + 2 * v = leb-true q (1 + 2 * v) (and-left (leb q (1 + 2 * v)) _ small) in
-    let others = and-right (leb q (1 + 2 * v)) (all-of (λ q. leb q (1 + 2 * v)) ks) small in
+    let others = and-right (leb q (1 + 2 * v)) (codesLow v ks) small in
     let w = placing r c p (omega arith) in
     let e′ : suc p + length ks ≡ r * c = omega arith in
     let names : switchBelow v (cellOf q) ≡ true = code-below v (cellOf q) (rw (cell-code q) low) in

@@ -14,7 +14,7 @@ use Rattle.common.specs.Limits.{maxRows, maxColumns, maxSwitches, maxOutputs}
 use Rattle.common.specs.Lists.{zeros, padded, all-of}
 use Rattle.common.proofs.Lists.{equal-or-not, length-grid, length-padded, all-of-grid, all-of-map, all-of-zeros}
 use Rattle.cells.specs.Code.{codeOf}
-use Rattle.cells.specs.Record.{size, inRange, sound}
+use Rattle.cells.specs.Record.{codesLow, size, inRange, sound}
 use Rattle.diagram.specs.Diagram.{Diagram}
 use Rattle.diagram.specs.Wires.{rowCount, columnCount}
 use Rattle.diagram.specs.Facts.{Facts, Sizes}
@@ -88,7 +88,7 @@ module _ (d : Diagram) (facts : Facts d) where
         le-leb (length (d .outs)) maxOutputs (sizes .outs-most),
       )
 
-  codes-in : all-of (λ k. leb k (1 + 2 * d .switches)) (cells d) ≡ true
+  codes-in : codesLow (d .switches) (cells d) ≡ true
   unfolding cells
   codes-in =
       all-of-grid (λ k. leb k (1 + 2 * d .switches)) (rowCount d) (columnCount d) (codeAt d)
