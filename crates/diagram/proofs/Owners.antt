@@ -1,6 +1,6 @@
--- How many ids have a wire: one id more counts one more wire or none; R and C from those counts, and ground 11 by them.
+-- How many ids have a wire: one id more counts one more wire or none; R and C from those counts.
 use Prim.Native.Nat.{ℕ, suc, _+_}
-use mathlib.Core.Path.{_≡_, refl}
+use mathlib.Core.Path.{_≡_}
 use mathlib.Core.Logic.{⊎-elim}
 use mathlib.Core.Bool.{Bool, true, false}
 use mathlib.Core.List.{List}
@@ -9,9 +9,9 @@ use lib.ListN.{length, length-append}
 use Rattle.common.specs.Lists.{bit}
 use Rattle.common.proofs.Lists.{by-test}
 use Rattle.diagram.specs.declared.Dimensions.{Dimensions}
-use Rattle.diagram.specs.Diagram.{Diagram, idCount}
-use Rattle.diagram.specs.Wires.{owners, hasRow, hasColumn, rowOwners, columnOwners, rowCount, columnCount, anyZero, namesZero, tooLarge}
-use Rattle.diagram.specs.Table.{tabled, dimensionsOf, exceeds}
+use Rattle.diagram.specs.Diagram.{idCount}
+use Rattle.diagram.specs.Wires.{owners, hasRow, hasColumn, rowOwners, columnOwners, rowCount, columnCount, anyZero, namesZero}
+use Rattle.diagram.specs.Table.{tabled, dimensionsOf}
 
 pub owners-more : (has : ℕ → Bool) (i : ℕ) → length (owners has (suc i)) ≡ length (owners has i) + bit (has i)
 unfolding owners bit
@@ -29,8 +29,3 @@ pub dimensions-counted :
     → _≡_ {A = Dimensions} (record { rows = rows; columns = columns }) (dimensionsOf (tabled t n outs))
 unfolding dimensionsOf rowCount rowOwners columnCount columnOwners namesZero tabled
 dimensions-counted t n outs rows columns r c = rw (r, c)
-
--- ground 11, by R and C
-pub exceeds-large : (d : Diagram) → exceeds (dimensionsOf d) ≡ tooLarge d
-unfolding dimensionsOf exceeds tooLarge
-exceeds-large d = refl

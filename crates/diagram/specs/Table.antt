@@ -3,9 +3,9 @@ use Prim.Native.Nat.{ℕ, _+_, _*_, _≤_, _<_}
 use mathlib.Core.Path.{_≡_}
 use mathlib.Core.List.{List, [], _∷_}
 use lib.ListN.{length, getD, set}
-use lib.Dec.{eqb, ltb}
+use lib.Dec.{eqb}
 use mathlib.Core.Bool.{Bool, true, false, _||_}
-use Rattle.common.specs.Limits.{maxIds, maxRows, maxColumns}
+use Rattle.common.specs.Limits.{maxIds}
 use Rattle.common.specs.Lists.{tab, any-of}
 use Rattle.common.specs.Outcome.{_when_, lowest}
 use Rattle.diagram.specs.declared.Node.{Node}
@@ -65,12 +65,9 @@ pub record WireNumbers (d : Diagram) (w : WireTable) : Type 0 where
   pub row : (i : ℕ) → i < idCount d → getD (w .rows) i 0 ≡ rowOf d i
   pub column : (i : ℕ) → i < idCount d → getD (w .columns) i 0 ≡ columnOf d i
 
--- R and C, and whether one of them "exceeds 128"
+-- R and C
 unfoldable pub dimensionsOf : Diagram → Dimensions
 dimensionsOf d = record { rows = rowCount d; columns = columnCount d }
-
-unfoldable pub exceeds : Dimensions → Bool
-exceeds size = ltb maxRows (size .rows) || ltb maxColumns (size .columns)
 
 -- grounds 6 to 9 of a node's line
 unfoldable pub laterFault : Diagram → Node → ℕ

@@ -58,5 +58,8 @@ unfoldable pub columnCount : Diagram → ℕ
 columnCount d = length (columnOwners d)
 
 -- Ground 11: "R or C exceeds 128"
+abbrev pub exceeds : ℕ → ℕ → Bool
+exceeds r c = ltb maxRows r || ltb maxColumns c
+
 unfoldable pub tooLarge : Diagram → Bool
-tooLarge d = ltb maxRows (rowCount d) || ltb maxColumns (columnCount d)
+tooLarge d = exceeds (rowCount d) (columnCount d)

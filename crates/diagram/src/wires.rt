@@ -16,8 +16,8 @@ ghost use Prim.Native.Nat.{_≤_};
 ghost use lib.ListN.{length, take};
 ghost use Rattle.common.specs.Labels.{labelH, labelV};
 ghost use Rattle.common.specs.Limits.{maxNodes, maxOutputs};
-ghost use Rattle.diagram.specs.Table.{tabled, Terminals, WireNumbers, dimensionsOf, exceeds};
-ghost use Rattle.diagram.specs.Wires.{labelHas, anyZero};
+ghost use Rattle.diagram.specs.Table.{tabled, Terminals, WireNumbers, dimensionsOf};
+ghost use Rattle.diagram.specs.Wires.{labelHas, anyZero, exceeds};
 
 // Labels `h` and `b` have a row.
 pub fn has_row(label: u16) -> bool
@@ -90,7 +90,7 @@ pub fn dimensions(table: &[u16; TABLE], outs: &[u16; MAX_OUTPUTS], n: usize, k: 
 
 // Ground 11: "R or C exceeds 128".
 pub fn too_large(size: Dimensions) -> bool
-    ensures { λ r. ⌜ r ≡ exceeds size ⌝ }
+    ensures { λ r. ⌜ r ≡ exceeds (size .rows) (size .columns) ⌝ }
 {
     MAX_ROWS < size.rows as usize || MAX_COLUMNS < size.columns as usize
 }

@@ -16,11 +16,10 @@ use Rattle.figures.specs.Line.{linesOf, lineEnd}
 use Rattle.forms.specs.Forms.{outForm}
 use Rattle.diagram.specs.Diagram.{Diagram, idCount, withOut, entries, entry}
 use Rattle.diagram.specs.Faults.{outFault}
-use Rattle.diagram.specs.Wires.{tooLarge}
+use Rattle.diagram.specs.Wires.{exceeds, tooLarge}
 use Rattle.diagram.specs.declared.Dimensions.{Dimensions}
-use Rattle.diagram.specs.Table.{entryIn, tabled, dimensionsOf, exceeds}
+use Rattle.diagram.specs.Table.{entryIn, tabled, dimensionsOf}
 use Rattle.diagram.proofs.TableLaws.{tabled-out}
-use Rattle.diagram.proofs.Owners.{exceeds-large}
 use Rattle.jobs.specs.declared.OutLine.{OutLine}
 use Rattle.jobs.specs.declared.OutsRead.{OutsRead}
 use Rattle.jobs.specs.declared.JobRead.{JobRead}
@@ -152,14 +151,15 @@ module _ (s : List ℕ) (at line n k : ℕ) (t outs : List ℕ) (e : Refusal) (e
 
     -- R and C
     module _ (size : Dimensions) (is : size ≡ dimensionsOf d) where
-      exceeded : exceeds size ≡ tooLarge d
-      exceeded = ap exceeds is ∙ exceeds-large d
+      exceeded : exceeds (size .rows) (size .columns) ≡ tooLarge d
+      unfolding tooLarge dimensionsOf
+      exceeded = rw is
 
-      pub end-large : exceeds size ≡ true → record { refusal = record { number = 11; line = line }; job = noJob } ≡ jobRead (sizeTested (readEnd d line (linesOf (drop at s))))
+      pub end-large : exceeds (size .rows) (size .columns) ≡ true → record { refusal = record { number = 11; line = line }; job = noJob } ≡ jobRead (sizeTested (readEnd d line (linesOf (drop at s))))
       end-large large = refused-answer _ _ (large-refused _ _ ended (sym exceeded ∙ large))
 
       pub end-done :
-          exceeds size ≡ false
+          exceeds (size .rows) (size .columns) ≡ false
           → Padded k outs
           → k ≤ maxOutputs
           → (v one : ℕ) → v ≡ (entryIn t 0) .x → one ≡ (entryIn t 1) .t

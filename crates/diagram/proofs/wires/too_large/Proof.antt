@@ -2,7 +2,6 @@
 use borrow.Author.Needs.{needs}
 use borrow.Author.Tests.{lt-ltb, le-ltb}
 use Rattle.common.specs.Limits.{maxRows, maxColumns}
-use Rattle.diagram.specs.Table.{exceeds}
 use Rattle.diagram.proofs.wires.too_large.Statement.{statement}
 use Rattle.diagram.proofs.wires.too_large.Tie as tie
 
@@ -13,11 +12,11 @@ cast-result : tie.Need-cast-result
 cast-result c = search needs
 
 returns : tie.Need-returns
-unfolding exceeds maxRows
+unfolding maxRows
 returns c = rw (lt-ltb 128 _ (c .if1 .taken))
 
 returns-2 : tie.Need-returns-2
-unfolding exceeds maxRows maxColumns
+unfolding maxRows maxColumns
 returns-2 c = rw (le-ltb 128 _ (c .before .if1 .left))
 
 pub too-large-spec : {M : Type 1} → statement M

@@ -20,20 +20,27 @@ same-length c = search needs
 
 returns : tie.Need-returns
 returns c =
-    map-refused _ _ _ (c .before .before .before .before .read .ensures) _ _ _ (c .before .if1 .taken) (c .refuse .ensures) (c .before .before .before .before .before .before .before .before .clear .ensures)
+    let read = c .before .before .before .before in
+    let cleared = read .before .before .before .before in
+    map-refused _ _ _ (read .read .ensures) _ _ _ (c .before .if1 .taken) (c .refuse .ensures) (cleared .clear .ensures)
 
 place-requires : tie.Need-place-requires
 place-requires c κs =
-    let cleared = c .before .before .before .before .before .before .before .before .before in
-    (job-held _ _ _ (c .before .before .before .before .before .read .ensures) (c .before .before .if1 .left), cleared .clear .ensures ∙ ap zeros (sym (cleared .clear .kept .0)))
+    let left = c .before .before in
+    let read = left .before .before .before in
+    let cleared = read .before .before .before .before in
+    (job-held _ _ _ (read .read .ensures) (left .if1 .left), cleared .clear .ensures ∙ ap zeros (sym (cleared .clear .kept .0)))
 
 same-length-2 : tie.Need-same-length-2
 same-length-2 c = search needs
 
 returns-2 : tie.Need-returns-2
 returns-2 c =
-    let placed = rw (c .before .before .before .before .before .before .before .before .before .before .before .before .clear .kept .0) at (c .before .before .place .ensures) in
-    rw (map-is _ _ _ (c .before .before .before .before .before .before .before .before .read .ensures) (c .before .before .before .before .before .if1 .left) _) at placed
+    let placed = c .before .before in
+    let left = placed .before .before .before in
+    let read = left .before .before .before in
+    let cleared = read .before .before .before .before in
+    rw (map-is _ _ _ (read .read .ensures) (left .if1 .left) _) at (rw (cleared .clear .kept .0) at (placed .place .ensures))
 
 pub map-spec : {M : Type 1} → statement M
 map-spec =
