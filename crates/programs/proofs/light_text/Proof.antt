@@ -20,7 +20,7 @@ same-length c = search needs
 returns : tie.Need-returns
 unfolding refusedLine lightProgram maxInput
 returns c =
-    said-as _ _ _ _ _ (input-long _ _ (c .before .before .before .before .if1 .taken)) (c .before .before .refuse .ensures)
+    said-as _ _ _ _ _ (input-long _ _ (omega (arith, c .before .before .before .before .if1 .taken))) (c .before .before .refuse .ensures)
 
 set-line-requires : tie.Need-set-line-requires
 set-line-requires c κs = search needs

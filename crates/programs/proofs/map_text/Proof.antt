@@ -1,4 +1,5 @@
 -- `programs::map_text` meets its contract: the case of the definition that each return stands for.
+use native.Mathlib.Omega.{arith}
 use mathlib.Core.Path.{refl}
 use Rattle.common.specs.Limits.{maxRows, maxColumns, maxInput}
 use Rattle.programs.specs.Programs.{mapProgram}
@@ -18,7 +19,7 @@ same-length c = search needs
 returns : tie.Need-returns
 unfolding refusedLine mapProgram maxInput
 returns c =
-    said-as _ _ _ _ _ (input-long _ _ (c .before .before .before .before .if1 .taken)) (c .before .before .refuse .ensures)
+    said-as _ _ _ _ _ (input-long _ _ (omega (arith, c .before .before .before .before .if1 .taken))) (c .before .before .refuse .ensures)
 
 slice-aggregate-map : tie.Need-slice-aggregate-map
 slice-aggregate-map c = search needs

@@ -1,5 +1,6 @@
 -- `diagram::wires::too_large` meets its contract: the rows decide, or else the columns.
 use borrow.Author.Needs.{needs}
+use native.Mathlib.Omega.{arith}
 use borrow.Author.Tests.{lt-ltb, le-ltb}
 use Rattle.common.specs.Limits.{maxRows, maxColumns}
 use Rattle.diagram.proofs.wires.too_large.Statement.{statement}
@@ -13,7 +14,7 @@ cast-result c = search needs
 
 returns : tie.Need-returns
 unfolding maxRows
-returns c = rw (lt-ltb 128 _ (c .if1 .taken))
+returns c = rw (lt-ltb 128 (c .before .before .args .size .rows) (omega (arith, c .if1 .taken)))
 
 returns-2 : tie.Need-returns-2
 unfolding maxRows maxColumns

@@ -32,7 +32,7 @@ no-job-requires c κs = search needs
 
 returns : tie.Need-returns
 returns c =
-    let a = c .before .before .before .before .before .before .before .args in c .no-job .ensures ∙ end-refused _ _ _ (a .p .count) (a .p .outputs) (now (a .table)) (a .o .outs) _ (end-step _ _ _ _ (c .before .before .before .end-line .ensures)) (c .before .if1 .taken)
+    let a = c .before .before .before .before .before .before .before .args in c .no-job .ensures ∙ end-refused _ _ _ (a .p .count) (a .p .outputs) (now (a .table)) (a .o .outs) _ (end-step _ _ _ _ (c .before .before .before .end-line .ensures)) (λ z. omega (arith, c .before .if1 .taken))
 
 dimensions-requires : tie.Need-dimensions-requires
 dimensions-requires c κs = search needs

@@ -1,5 +1,6 @@
 -- `placement::mapping::place` meets its contract: ground 14, or the buffer is filled.
 use borrow.Author.Needs.{needs}
+use native.Mathlib.Omega.{arith}
 use Rattle.placement.proofs.Maps.{place-short, place-fits, place-done}
 use Rattle.placement.proofs.mapping.place.Statement.{statement}
 use Rattle.placement.proofs.mapping.place.Tie as tie
@@ -14,7 +15,7 @@ returns : tie.Need-returns
 returns c =
     let tested = c .before .before in
     let start = tested .before .before in
-    place-short _ _ (start .pre .0) _ _ (tested .lacking .ensures) _ _ (c .before .if1 .taken) (c .refuse .ensures) (start .pre .1)
+    place-short _ _ (start .pre .0) _ _ (tested .lacking .ensures) _ _ (omega (arith, c .before .if1 .taken)) (c .refuse .ensures) (start .pre .1)
 
 fill-requires : tie.Need-fill-requires
 fill-requires c κs =

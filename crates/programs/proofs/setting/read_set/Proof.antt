@@ -93,7 +93,7 @@ returns-4 : tie.Need-returns-4 Inv-loop μ-loop
 returns-4 c =
     let r = c .before .before .before .before .before .before .before .before .before .loop .inv in
     c .no-set4 .ensures
-    ∙ reading-high _ _ _ _ r (sym (c .before .before .before .before .before .before .before .before .byte-at .ensures) ∙ c .before .before .before .before .before .before .before .if2 .taken) _ _ (sym (c .before .before .before .before .before .before .read-figure .ensures) ∙ c .before .before .before .before .value .given .1) (c .before .if4 .taken)
+    ∙ reading-high _ _ _ _ r (sym (c .before .before .before .before .before .before .before .before .byte-at .ensures) ∙ c .before .before .before .before .before .before .before .if2 .taken) _ _ (sym (c .before .before .before .before .before .before .read-figure .ensures) ∙ c .before .before .before .before .value .given .1) (omega (arith, c .before .if4 .taken))
 
 cast-found : tie.Need-cast-found Inv-loop μ-loop
 cast-found c =
