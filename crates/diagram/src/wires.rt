@@ -92,5 +92,8 @@ pub fn dimensions(table: &[u16; TABLE], outs: &[u16; MAX_OUTPUTS], n: usize, k: 
 pub fn too_large(size: Dimensions) -> bool
     ensures { λ r. ⌜ r ≡ exceeds (size .rows) (size .columns) ⌝ }
 {
-    MAX_ROWS < size.rows as usize || MAX_COLUMNS < size.columns as usize
+    if MAX_ROWS < size.rows as usize {
+        return true;
+    }
+    MAX_COLUMNS < size.columns as usize
 }
