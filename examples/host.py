@@ -1,4 +1,5 @@
-"""The library from Python: maps a job and prints what each output reads under every setting, beside the walk's value.
+"""The library from Python: maps a job and prints what each output reads under every setting, beside the walk's value, and the first
+round of each output's row: 0 if it is dark, otherwise 1 plus the round in which it was first lit.
 
     python3 examples/host.py JOB [LIBRARY]
 
@@ -11,7 +12,7 @@ import sys
 
 RECORD_BYTES = 72
 MAX_CELLS = 128 * 128
-MAX_WIRES = 128 + 128
+MAX_FIRST_ROUNDS = 2 * (128 + 128)
 
 # The most switches for which every setting is tried.
 MAX_TRIED = 16
@@ -43,26 +44,28 @@ def value(call, answer):
     return rest
 
 
-def number_at(record, place):
-    """A number of a record: 0 rows, 1 columns, 2 switches, 3 outputs, 4 + j the row of output j."""
-    return int.from_bytes(record.raw[2 * place:2 * place + 2], "little")
+def number_at(buffer, place):
+    """A number of two bytes. Of a record: 0 rows, 1 columns, 2 switches, 3 outputs, 4 + j the row of output j. Of first rounds: r the
+    one of row r."""
+    return int.from_bytes(buffer.raw[2 * place:2 * place + 2], "little")
 
 
 def show(lib, job):
     """Prints a line for each setting. Is every reading the walk's value?"""
     record = ctypes.create_string_buffer(RECORD_BYTES)
     cells = ctypes.create_string_buffer(MAX_CELLS)
-    wires = ctypes.create_string_buffer(MAX_WIRES)
+    first_rounds = ctypes.create_string_buffer(MAX_FIRST_ROUNDS)
     value("map", lib.crossbar_map(*given(job), *lent(record), *lent(cells)))
     switches, outputs = number_at(record, 2), number_at(record, 3)
     if switches > MAX_TRIED:
         raise ValueError(f"{switches} switches have too many settings to try them all")
     same = True
     for setting in itertools.product((0, 1), repeat=switches):
-        rounds = value("light", lib.crossbar_light(*given(record.raw), *given(cells.raw), *given(setting), *lent(wires)))
-        reads = [wires.raw[number_at(record, 4 + j)] for j in range(outputs)]
+        rounds = value("light", lib.crossbar_light(*given(record.raw), *given(cells.raw), *given(setting), *lent(first_rounds)))
+        firsts = [number_at(first_rounds, number_at(record, 4 + j)) for j in range(outputs)]
+        reads = [int(first != 0) for first in firsts]
         walks = [value("walk", lib.crossbar_walk(*given(job), *given(setting), ctypes.c_uint32(j))) for j in range(outputs)]
-        print("setting", *setting, "rounds", rounds, "reads", *reads, "walks", *walks)
+        print("setting", *setting, "rounds", rounds, "reads", *reads, "walks", *walks, "first rounds", *firsts)
         same = same and reads == walks
     return same
 

@@ -31,10 +31,10 @@ extern "C" {
  * The version of this header and of the library that belongs to it. The first figure rises where a host has to change: a call, a
  * text, a record or an answer means something else than before. The second rises where something is added.
  */
-#define CROSSBAR_VERSION_MAJOR 1
-#define CROSSBAR_VERSION_MINOR 2
+#define CROSSBAR_VERSION_MAJOR 2
+#define CROSSBAR_VERSION_MINOR 0
 #define CROSSBAR_VERSION_PATCH 0
-#define CROSSBAR_VERSION "1.2.0"
+#define CROSSBAR_VERSION "2.0.0"
 
 /* Limits. */
 #define CROSSBAR_MAX_ROWS 128
@@ -46,7 +46,7 @@ extern "C" {
 /* Sizes that are always enough for a slice, in bytes. A record takes CROSSBAR_RECORD_BYTES. */
 #define CROSSBAR_RECORD_BYTES 72
 #define CROSSBAR_MAX_CELLS (CROSSBAR_MAX_ROWS * CROSSBAR_MAX_COLUMNS)
-#define CROSSBAR_MAX_WIRES (CROSSBAR_MAX_ROWS + CROSSBAR_MAX_COLUMNS)
+#define CROSSBAR_MAX_FIRST_ROUNDS (2 * (CROSSBAR_MAX_ROWS + CROSSBAR_MAX_COLUMNS))
 #define CROSSBAR_MAX_LISTING 393728
 #define CROSSBAR_STACK 24576
 
@@ -99,13 +99,15 @@ uint64_t crossbar_walk(const uint8_t *text, size_t text_length,
                        uint32_t output);
 
 /*
- * Record, cells and setting in; one byte a wire out, rows and then columns, 1 lit and 0 dark. Value: the count of rounds.
- * Refuses 12 (also a record slice that is shorter than a record, or has a byte past it other than 0), 13, 14, 15.
+ * Record, cells and setting in; first rounds out: for each wire, rows and then columns, a number of two bytes, low byte first, 0 if
+ * the wire is dark, otherwise 1 plus the round in which it was first lit. Row 0 is lit before round 1, so its number is 1. Value: the
+ * count of rounds; the largest number is 1 more. Refuses 12 (also a record slice that is shorter than a record, or has a byte past it
+ * other than 0), 13, 14 for fewer than 2 * (R + C) bytes, 15.
  */
 uint64_t crossbar_light(const uint8_t *record, size_t record_length,
                         const uint8_t *cells, size_t cells_length,
                         const uint8_t *setting, size_t setting_length,
-                        uint8_t *wires, size_t wires_length);
+                        uint8_t *first_rounds, size_t first_rounds_length);
 
 /* Record and cells in; listing text out. Value: the text's length. Refuses 12 (as light does), 14. */
 uint64_t crossbar_print(const uint8_t *record, size_t record_length,
@@ -200,20 +202,34 @@ static inline int crossbar_passes_at_one(uint8_t code)
     return code % 2 == 0;
 }
 
-/* What light gave: 1 where a row, a column or an output's row is lit, else 0. */
-static inline unsigned crossbar_row_lit(const uint8_t *wires, unsigned row)
+/*
+ * What light gave: a row's or a column's first round, 0 if it is dark, otherwise 1 plus the round in which it was first lit. The bytes
+ * of these numbers are those of a record's numbers.
+ */
+static inline unsigned crossbar_row_first_round(const uint8_t *first_rounds, unsigned row)
 {
-    return wires[row] != 0;
+    return crossbar_number_at(first_rounds, row);
 }
 
-static inline unsigned crossbar_column_lit(const uint8_t *record, const uint8_t *wires, unsigned column)
+static inline unsigned crossbar_column_first_round(const uint8_t *record, const uint8_t *first_rounds, unsigned column)
 {
-    return wires[crossbar_rows(record) + column] != 0;
+    return crossbar_number_at(first_rounds, crossbar_rows(record) + column);
 }
 
-static inline unsigned crossbar_reads(const uint8_t *record, const uint8_t *wires, unsigned output)
+/* And what follows from it: 1 where a row, a column or an output's row is lit, else 0. */
+static inline unsigned crossbar_row_lit(const uint8_t *first_rounds, unsigned row)
 {
-    return crossbar_row_lit(wires, crossbar_output_row(record, output));
+    return crossbar_row_first_round(first_rounds, row) != 0;
+}
+
+static inline unsigned crossbar_column_lit(const uint8_t *record, const uint8_t *first_rounds, unsigned column)
+{
+    return crossbar_column_first_round(record, first_rounds, column) != 0;
+}
+
+static inline unsigned crossbar_reads(const uint8_t *record, const uint8_t *first_rounds, unsigned output)
+{
+    return crossbar_row_lit(first_rounds, crossbar_output_row(record, output));
 }
 
 #ifdef __cplusplus

@@ -1,16 +1,21 @@
 /*
  * The subcommand draw: a crossbar as SVG. Rows and columns are lines; a cell that is not off stands where they cross, with the
  * switch that it tests; outputs stand at the right of their rows. With a setting, lit wires are thick and coloured, and so is the
- * edge of a cell that conducts.
+ * edge of a cell that conducts; beside each lit wire stands the round in which it was first lit.
  */
 #include "tool.h"
 
 #include <string.h>
 
-/* Lengths in the drawing: between two wires, left of the wires, above them, about the width of a letter, a line of the legend. */
+/*
+ * Lengths in the drawing: between two wires, left of the columns, above the rows, of a row before its first cell (a round of three
+ * figures has room there), of a column above its first cell, about the width of a letter, a line of the legend.
+ */
 #define STEP 56
-#define LEFT 148
+#define LEFT 168
 #define TOP 120
+#define ROW_START 48
+#define COLUMN_START 28
 #define LETTER 8
 #define LEGEND_LINE 32
 #define LEGEND_WIDTH 580
@@ -26,7 +31,7 @@ struct drawing {
     const char *title;
     int known; /* is there a setting? */
     unsigned rounds;
-    uint8_t wires[CROSSBAR_MAX_WIRES];
+    uint8_t first_rounds[CROSSBAR_MAX_FIRST_ROUNDS];
 };
 
 /* Where a row or a column stands. */
@@ -109,22 +114,32 @@ static void draw_cell(unsigned x, unsigned y, uint8_t code, const char *stroke, 
     printf("%sx%u</text>\n", crossbar_passes_at_one(code) ? "" : "&#172;", crossbar_switch_of(code));
 }
 
+/* The round in which a wire was first lit, in figures; nothing where it is dark or there is no setting. */
+static void draw_round(unsigned x, unsigned y, unsigned first_round)
+{
+    if (first_round != 0)
+        printf("<text x=\"%u\" y=\"%u\" font-size=\"12\" fill=\"%s\">%u</text>\n", x, y, LIT, first_round - 1);
+}
+
+/* Without a setting every first round is 0 here. */
 static void draw_wires(const struct drawing *drawing)
 {
     const uint8_t *record = drawing->crossbar->record;
-    unsigned i, lit;
+    unsigned i, first, row_start = LEFT - ROW_START, column_start = TOP - COLUMN_START;
 
     for (i = 0; i < crossbar_rows(record); i++) {
-        lit = drawing->known && crossbar_row_lit(drawing->wires, i);
-        draw_line(LEFT - STEP / 2, row_at(i), right_of(drawing), row_at(i), colour(drawing, (int)lit), (int)lit);
-        begin_words(LEFT - STEP / 2 - 8, row_at(i) + 5, "end");
+        first = crossbar_row_first_round(drawing->first_rounds, i);
+        draw_line(row_start, row_at(i), right_of(drawing), row_at(i), colour(drawing, first != 0), first != 0);
+        begin_words(row_start - 8, row_at(i) + 5, "end");
         printf("%srow %u</text>\n", i == 0 ? "power, " : "", i);
+        draw_round(row_start + 2, row_at(i) - 6, first);
     }
     for (i = 0; i < crossbar_columns(record); i++) {
-        lit = drawing->known && crossbar_column_lit(record, drawing->wires, i);
-        draw_line(column_at(i), TOP - STEP / 2, column_at(i), bottom_of(drawing), colour(drawing, (int)lit), (int)lit);
-        begin_words(column_at(i), TOP - STEP / 2 - 8, "middle");
+        first = crossbar_column_first_round(record, drawing->first_rounds, i);
+        draw_line(column_at(i), column_start, column_at(i), bottom_of(drawing), colour(drawing, first != 0), first != 0);
+        begin_words(column_at(i), column_start - 8, "middle");
         printf("col %u</text>\n", i);
+        draw_round(column_at(i) + 6, column_start + 10, first);
     }
 }
 
@@ -158,7 +173,7 @@ static unsigned output_label(const struct drawing *drawing, unsigned row, int pr
     }
     if (letters != 0 && drawing->known) {
         if (print)
-            printf(": reads %u", crossbar_row_lit(drawing->wires, row));
+            printf(": reads %u", crossbar_row_lit(drawing->first_rounds, row));
         letters += 9;
     }
     return letters;
@@ -171,7 +186,7 @@ static void draw_outputs(const struct drawing *drawing)
     for (row = 0; row < crossbar_rows(drawing->crossbar->record); row++) {
         if (output_label(drawing, row, 0) == 0)
             continue;
-        lit = drawing->known && crossbar_row_lit(drawing->wires, row);
+        lit = crossbar_row_lit(drawing->first_rounds, row);
         printf("<path d=\"M %u %u l 0 14 l 12 -7 z\" fill=\"%s\"/>\n", right_of(drawing), row_at(row) - 7, colour(drawing, (int)lit));
         begin_words(right_of(drawing) + 18, row_at(row) + 5, "start");
         output_label(drawing, row, 1);
@@ -214,6 +229,8 @@ static void draw_legend(const struct drawing *drawing, unsigned y)
     write_words(76, y + 3 * LEGEND_LINE + 5, "lit; a cell with this edge conducts");
     draw_line(24, y + 4 * LEGEND_LINE, 64, y + 4 * LEGEND_LINE, DARK, 0);
     write_words(76, y + 4 * LEGEND_LINE + 5, "dark; a cell with this edge does not conduct");
+    draw_round(40, y + 5 * LEGEND_LINE + 5, 3);
+    write_words(76, y + 5 * LEGEND_LINE + 5, "beside a wire: the round in which it was first lit; 0: before round 1");
 }
 
 static unsigned larger(unsigned a, size_t b)
@@ -236,7 +253,7 @@ static unsigned width_of(const struct drawing *drawing)
 static void draw(const struct drawing *drawing)
 {
     unsigned width = width_of(drawing), legend = bottom_of(drawing) + 36;
-    unsigned height = legend + LEGEND_LINE * (drawing->known ? 5u : 3u);
+    unsigned height = legend + LEGEND_LINE * (drawing->known ? 6u : 3u);
 
     printf("<svg xmlns=\"http://www.w3.org/2000/svg\" width=\"%u\" height=\"%u\" viewBox=\"0 0 %u %u\" font-family=\"sans-serif\" "
            "font-size=\"14\">\n<title>",
@@ -281,7 +298,7 @@ int run_draw(const struct request *request)
         return status;
     if (drawing.known)
         answer = crossbar_light(crossbar.record, sizeof crossbar.record, crossbar.cells, sizeof crossbar.cells, setting.bytes,
-                                setting.length, drawing.wires, sizeof drawing.wires);
+                                setting.length, drawing.first_rounds, sizeof drawing.first_rounds);
     drawing.title = title_of(request, &text);
     drawing.rounds = (unsigned)CROSSBAR_VALUE(answer);
     if (CROSSBAR_NUMBER(answer) == 0)

@@ -108,22 +108,52 @@ int run_walk(const struct request *request)
     return status;
 }
 
-/* What light answered, in words. */
-static void say_light(const struct crossbar *crossbar, const uint8_t *wires, unsigned rounds)
+/* When a lit wire was first lit. Row 0 is lit before the first round, and its number is 1. */
+static void say_when(unsigned first_round)
 {
-    const uint8_t *record = crossbar->record;
+    if (first_round == 1)
+        printf("lit before round 1");
+    else
+        printf("lit in round %u", first_round - 1);
+}
+
+/* A line with the wires that have this first round: one at least, since every round lights a wire. */
+static void say_round(const uint8_t *record, const uint8_t *first_rounds, unsigned first_round)
+{
+    const char *before = ":";
     unsigned i;
 
-    printf("rounds: %u\nlit:", rounds);
+    say_when(first_round);
     for (i = 0; i < crossbar_rows(record); i++)
-        if (crossbar_row_lit(wires, i))
-            printf("%s row %u", i == 0 ? "" : ",", i);
+        if (crossbar_row_first_round(first_rounds, i) == first_round) {
+            printf("%s row %u", before, i);
+            before = ",";
+        }
     for (i = 0; i < crossbar_columns(record); i++)
-        if (crossbar_column_lit(record, wires, i))
-            printf(", column %u", i);
+        if (crossbar_column_first_round(record, first_rounds, i) == first_round) {
+            printf("%s column %u", before, i);
+            before = ",";
+        }
     printf("\n");
-    for (i = 0; i < crossbar_outputs(record); i++)
-        printf("output %u on row %u reads %u\n", i, crossbar_output_row(record, i), crossbar_reads(record, wires, i));
+}
+
+/* What light answered, in words. */
+static void say_light(const uint8_t *record, const uint8_t *first_rounds, unsigned rounds)
+{
+    unsigned i, row;
+
+    printf("rounds: %u\n", rounds);
+    for (i = 0; i <= rounds; i++)
+        say_round(record, first_rounds, i + 1);
+    for (i = 0; i < crossbar_outputs(record); i++) {
+        row = crossbar_output_row(record, i);
+        printf("output %u on row %u reads %u", i, row, crossbar_reads(record, first_rounds, i));
+        if (crossbar_row_lit(first_rounds, row)) {
+            printf(", ");
+            say_when(crossbar_row_first_round(first_rounds, row));
+        }
+        printf("\n");
+    }
 }
 
 int run_light(const struct request *request)
@@ -131,7 +161,7 @@ int run_light(const struct request *request)
     struct text text;
     struct crossbar crossbar;
     struct setting setting;
-    uint8_t wires[CROSSBAR_MAX_WIRES];
+    uint8_t first_rounds[CROSSBAR_MAX_FIRST_ROUNDS];
     uint64_t answer;
     int status = read_setting(request, &setting);
 
@@ -140,9 +170,9 @@ int run_light(const struct request *request)
     if (status != DONE)
         return status;
     answer = crossbar_light(crossbar.record, sizeof crossbar.record, crossbar.cells, sizeof crossbar.cells, setting.bytes,
-                            setting.length, wires, sizeof wires);
+                            setting.length, first_rounds, sizeof first_rounds);
     if (CROSSBAR_NUMBER(answer) == 0)
-        say_light(&crossbar, wires, (unsigned)CROSSBAR_VALUE(answer));
+        say_light(crossbar.record, first_rounds, (unsigned)CROSSBAR_VALUE(answer));
     else
         status = refused(request, &text, answer);
     free_text(&text);

@@ -54,9 +54,9 @@ static int print_line(struct work *work)
 {
     const uint8_t *record = work->crossbar.record;
     const struct setting *setting = &work->setting;
-    uint8_t wires[CROSSBAR_MAX_WIRES];
+    uint8_t first_rounds[CROSSBAR_MAX_FIRST_ROUNDS];
     uint64_t walked, answer = crossbar_light(record, CROSSBAR_RECORD_BYTES, work->crossbar.cells, sizeof work->crossbar.cells,
-                                             setting->bytes, setting->length, wires, sizeof wires);
+                                             setting->bytes, setting->length, first_rounds, sizeof first_rounds);
     unsigned i, reads;
 
     if (CROSSBAR_NUMBER(answer) != 0)
@@ -68,7 +68,7 @@ static int print_line(struct work *work)
         walked = crossbar_walk(work->text->bytes, work->text->length, setting->bytes, setting->length, i);
         if (CROSSBAR_NUMBER(walked) != 0)
             return refused(work->request, work->text, walked);
-        reads = crossbar_reads(record, wires, i);
+        reads = crossbar_reads(record, first_rounds, i);
         work->different += reads != CROSSBAR_VALUE(walked);
         printf("  %s%u/%u", reads == CROSSBAR_VALUE(walked) ? "   " : "  !", reads, (unsigned)CROSSBAR_VALUE(walked));
     }

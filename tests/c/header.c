@@ -5,6 +5,10 @@
 #include "crossbar.h"
 #include "crossbar.h"
 
+#ifdef CROSSBAR_MAX_WIRES
+#error "the size of an answer that light does not give is still named"
+#endif
+
 typedef char record_bytes[CROSSBAR_RECORD_BYTES == 72 ? 1 : -1];
 typedef char max_rows[CROSSBAR_MAX_ROWS == 128 ? 1 : -1];
 typedef char max_columns[CROSSBAR_MAX_COLUMNS == 128 ? 1 : -1];
@@ -13,7 +17,7 @@ typedef char max_nodes[CROSSBAR_MAX_NODES == 254 ? 1 : -1];
 typedef char max_outputs[CROSSBAR_MAX_OUTPUTS == 32 ? 1 : -1];
 typedef char max_cells[CROSSBAR_MAX_CELLS == 16384 ? 1 : -1];
 typedef char max_listing[CROSSBAR_MAX_LISTING == 393728 ? 1 : -1];
-typedef char max_wires[CROSSBAR_MAX_WIRES == 256 ? 1 : -1];
+typedef char max_first_rounds[CROSSBAR_MAX_FIRST_ROUNDS == 512 ? 1 : -1];
 typedef char last_number[CROSSBAR_LAST_NUMBER == CROSSBAR_UNSETTLED ? 1 : -1];
 
 /* The numbers of document 01, in its order. */
@@ -53,7 +57,7 @@ static void write_adder(uint8_t *record, uint8_t *cells)
 /* The small functions read back what was written, and light reads it the same way: the sum and the carry under all settings. */
 static int functions_agree(void)
 {
-    uint8_t record[CROSSBAR_RECORD_BYTES], cells[6], wires[5], setting[2];
+    uint8_t record[CROSSBAR_RECORD_BYTES], cells[6], first_rounds[10], setting[2];
     unsigned a, b;
 
     write_adder(record, cells);
@@ -71,15 +75,33 @@ static int functions_agree(void)
         for (b = 0; b < 2; b++) {
             setting[0] = (uint8_t)a;
             setting[1] = (uint8_t)b;
-            if (CROSSBAR_NUMBER(light(record, sizeof record, cells, sizeof cells, setting, 2, wires, sizeof wires)) != 0)
+            if (CROSSBAR_NUMBER(light(record, sizeof record, cells, sizeof cells, setting, 2, first_rounds, sizeof first_rounds)) != 0)
                 return 0;
-            if (crossbar_reads(record, wires, 0) != (a ^ b) || crossbar_reads(record, wires, 1) != (a & b))
+            if (crossbar_reads(record, first_rounds, 0) != (a ^ b) || crossbar_reads(record, first_rounds, 1) != (a & b))
                 return 0;
-            if (crossbar_row_lit(wires, 0) != 1 || crossbar_column_lit(record, wires, 0) != b)
+            if (crossbar_row_lit(first_rounds, 0) != 1 || crossbar_column_lit(record, first_rounds, 0) != b)
+                return 0;
+            /* Row 0 before round 1, column 0 in round 1, row 1 in round 2. */
+            if (crossbar_row_first_round(first_rounds, 0) != 1 || crossbar_column_first_round(record, first_rounds, 0) != 2 * b ||
+                crossbar_row_first_round(first_rounds, 1) != 3 * (a & b))
                 return 0;
         }
     crossbar_put_number(record, 0, 513);
     return crossbar_number_at(record, 0) == 513;
+}
+
+/* First rounds are read low byte first. Light gives no row of so late a round; the functions read it all the same. */
+static int two_bytes(void)
+{
+    static const uint8_t first_rounds[] = {0, 1, 0x34, 0x12, 0, 0};
+    uint8_t record[CROSSBAR_RECORD_BYTES];
+
+    crossbar_start_record(record, 2, 1, 0, 2);
+    crossbar_put_output_row(record, 1, 1);
+    return crossbar_row_first_round(first_rounds, 0) == 256 && crossbar_row_first_round(first_rounds, 1) == 0x1234 &&
+           crossbar_column_first_round(record, first_rounds, 0) == 0 && crossbar_row_lit(first_rounds, 0) == 1 &&
+           crossbar_column_lit(record, first_rounds, 0) == 0 && crossbar_reads(record, first_rounds, 0) == 1 &&
+           crossbar_reads(record, first_rounds, 1) == 1;
 }
 
 /* A record slice may be longer than the record with zeros past it; a shorter one and another byte past it are 12. */
@@ -94,6 +116,70 @@ static int longer_record(void)
         return 0;
     record[CROSSBAR_RECORD_BYTES] = 1;
     return is(print(record, sizeof record, cells, sizeof cells, text, sizeof text), CROSSBAR_BAD_CROSSBAR, 0);
+}
+
+static int all_zero(const uint8_t *bytes, size_t length)
+{
+    size_t i;
+
+    for (i = 0; i < length; i++)
+        if (bytes[i] != 0)
+            return 0;
+    return 1;
+}
+
+/* The largest crossbar with cells on along a stair, so that each round lights one wire: row 0, column 0, row 1, column 1 and so on. */
+static uint64_t light_stair(uint8_t *record, uint8_t *first_rounds, size_t length)
+{
+    static uint8_t cells[CROSSBAR_MAX_CELLS];
+    unsigned i;
+
+    crossbar_start_record(record, CROSSBAR_MAX_ROWS, CROSSBAR_MAX_COLUMNS, 0, 1);
+    for (i = 0; i < CROSSBAR_MAX_ROWS; i++) {
+        crossbar_put_cell(record, cells, i, i, CROSSBAR_ON);
+        if (i > 0)
+            crossbar_put_cell(record, cells, i, i - 1, CROSSBAR_ON);
+    }
+    return light(record, CROSSBAR_RECORD_BYTES, cells, sizeof cells, NULL, 0, first_rounds, length);
+}
+
+/* Every number of the stair, low byte first: the last one is 256, so its low byte is 0 and the wire is lit all the same. */
+static int numbers_of_stair(const uint8_t *record, const uint8_t *first_rounds)
+{
+    unsigned i;
+
+    for (i = 0; i < CROSSBAR_MAX_ROWS; i++)
+        if (crossbar_row_first_round(first_rounds, i) != 2 * i + 1 || crossbar_column_first_round(record, first_rounds, i) != 2 * i + 2)
+            return 0;
+    for (i = 0; i < CROSSBAR_MAX_ROWS; i++)
+        if (!crossbar_row_lit(first_rounds, i) || !crossbar_column_lit(record, first_rounds, i))
+            return 0;
+    return first_rounds[CROSSBAR_MAX_FIRST_ROUNDS - 2] == 0 && first_rounds[CROSSBAR_MAX_FIRST_ROUNDS - 1] == 1;
+}
+
+/*
+ * CROSSBAR_MAX_FIRST_ROUNDS bytes are enough for the largest crossbar, and one byte less is 14 and leaves zeros. Bytes past the answer
+ * are 0, an odd last one too. The slice held other bytes before, and the byte after it stays.
+ */
+static int enough_for_first_rounds(void)
+{
+    enum { MOST = CROSSBAR_MAX_FIRST_ROUNDS };
+    uint8_t record[CROSSBAR_RECORD_BYTES], first_rounds[MOST + 4];
+    size_t length, i;
+    uint64_t answer;
+
+    for (length = MOST - 1; length <= MOST + 3; length++) {
+        for (i = 0; i < sizeof first_rounds; i++)
+            first_rounds[i] = 0xa5;
+        answer = light_stair(record, first_rounds, length);
+        if (first_rounds[length] != 0xa5)
+            return 0;
+        if (length < MOST && (!is(answer, CROSSBAR_SHORT_BUFFER, 0) || !all_zero(first_rounds, length)))
+            return 0;
+        if (length >= MOST && (answer != 255 || !numbers_of_stair(record, first_rounds) || !all_zero(first_rounds + MOST, length - MOST)))
+            return 0;
+    }
+    return 1;
 }
 
 int main(void)
@@ -120,5 +206,9 @@ int main(void)
         return 8;
     if (!longer_record())
         return 9;
+    if (!two_bytes())
+        return 10;
+    if (!enough_for_first_rounds())
+        return 11;
     return 0;
 }

@@ -1,9 +1,10 @@
 -- Each call refuses nothing exactly where what it is handed meets none of its grounds.
-use Prim.Native.Nat.{ℕ, _+_, _≤_}
+use Prim.Native.Nat.{ℕ, _/_, _+_, _≤_}
 use mathlib.Core.Path.{_≡_, sym, ap, _∙_}
 use mathlib.Core.Logic.{_↔_, Iff·trans}
 use mathlib.Core.Bool.{true, not, _&&_}
 use mathlib.Core.List.{List, []}
+use native.Mathlib.Omega.{arith}
 use lib.ListN.{length, take}
 use lib.Dec.{ltb}
 use borrow.Author.Tests.{ltb-true, ltb-false, not-false}
@@ -86,17 +87,17 @@ unfolding hostLight light
 light-done head cells setting room = (
   (λ found.
       let x = recordFrom head in
-      let holds = held-done head (light x cells setting room) (found .0) (found .1) in
+      let holds = held-done head (light x cells setting (room / 2)) (found .0) (found .1) in
       let z = unless-done _ 0 _ (found .0) (holds .1) .0 in
       record {
         holds = holds .0;
         right = not-false (sound x cells) (not-met 11 _ _ z);
         set = not-false (isSetting (x .switches) setting) (not-met 12 _ _ (others 11 _ _ z));
-        wires-room = ltb-false room (x .rows + x .columns) (not-met 13 _ _ (others 12 _ _ (others 11 _ _ z)));
+        firsts-room = omega (arith, ltb-false (room / 2) (x .rows + x .columns) (not-met 13 _ _ (others 12 _ _ (others 11 _ _ z))));
       }),
   (λ given.
       let x = recordFrom head in
-      (litBy x cells setting, one-held head _ (given .holds) ∙ light-accepts x cells setting room (given .right) (given .set) (given .wires-room))),
+      (litBy x cells setting, one-held head _ (given .holds) ∙ light-accepts x cells setting (room / 2) (given .right) (given .set) (omega (arith, given .firsts-room)))),
 )
 
 print-done : (head cells : List ℕ) (room : ℕ) → Done (hostPrint head cells room) ↔ Printable head cells room
@@ -155,8 +156,8 @@ calls-accept =
           λ text setting j answer kept.
           rw kept (Iff·trans (calls-read .of-walk text setting j .none-refused) (walk-done text setting j));
       light =
-          λ head cells setting wires₀ answer wires kept.
-          let room = length wires₀ in
+          λ head cells setting firsts₀ answer firsts kept.
+          let room = length firsts₀ in
           rw (kept .answer) (Iff·trans (calls-read .of-light head cells setting room .none-refused) (light-done head cells setting room));
       print =
           λ head cells text₀ answer text kept.

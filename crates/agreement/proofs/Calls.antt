@@ -1,5 +1,5 @@
 -- Demand 3 of the calls: from their promises and `demand-3`.
-use Prim.Native.Nat.{ℕ, _+_, _≤_, _<_}
+use Prim.Native.Nat.{ℕ, _+_, _*_, _/_, _≤_, _<_}
 use mathlib.Core.Path.{_≡_, sym, ap, _∙_}
 use mathlib.Core.Logic.{_↔_, Iff·trans, Iff·symm}
 use mathlib.Core.Bool.{true}
@@ -11,7 +11,7 @@ use borrow.Author.Tests.{ltb-false}
 use Rattle.common.specs.Limits.{maxOutputs}
 use Rattle.common.specs.Lists.{padded}
 use Rattle.common.specs.Outcome.{done, bufferOf}
-use Rattle.common.proofs.Lists.{getD-padded-any, length-padded, take-padded}
+use Rattle.common.proofs.Lists.{length-padded, take-padded}
 use Rattle.common.proofs.Outcome.{then-done, unless-done, not-met}
 use Rattle.cells.specs.declared.Crossbar.{Crossbar}
 use Rattle.cells.specs.Record.{Whole, size}
@@ -23,20 +23,21 @@ use Rattle.placement.specs.Placement as placement
 use Rattle.placement.specs.Map.{mapJob}
 use Rattle.placement.proofs.Sound.{cells-count, outs-count}
 use Rattle.conduction.specs.Light.{Lit, light}
-use Rattle.crossbar.specs.Bytes.{recordLength, recordBytes, recordFrom}
+use Rattle.crossbar.specs.Bytes.{recordLength, pairs, recordBytes, numberAt, recordFrom}
 use Rattle.crossbar.specs.Host.{forRecord, hostMap, hostLight, MapCall, LightCall, WalkCall}
 use Rattle.crossbar.specs.Parts.{numberPart, lowPart}
 use Rattle.crossbar.proofs.Parts.{calls-read}
+use Rattle.crossbar.proofs.Pairs.{numbers-back}
 use Rattle.crossbar.proofs.Records.{length-record, record-written}
 use Rattle.crossbar.proofs.ReadBack.{for-record-long, light-written}
-use Rattle.agreement.specs.Demand3.{Demand3, Reads, Tells, standsOn}
+use Rattle.agreement.specs.Demand3.{Demand3, Reads, Tells, Shows, standsOn}
 use Rattle.agreement.specs.Calls.{inBuffers, Holds, BuffersAgree, CallsAgree, Demand3OfCalls}
 use Rattle.agreement.proofs.Demand3.{demand-3}
 use Rattle.conduction.proofs.Slices.{joined-same}
 
--- what tells one statement tells an equivalent one
-tells-same : (b : ℕ) (P Q : Type 0) → P ↔ Q → Tells b P → Tells b Q
-tells-same b P Q e a = (
+-- what tells or shows one statement does so of an equivalent one
+told-same : (A B P Q : Type 0) → P ↔ Q → (A ↔ P) × (B ↔ (P → ⊥)) → (A ↔ Q) × (B ↔ (Q → ⊥))
+told-same A B P Q e a = (
   Iff·trans (a .0) e,
   ((λ z q. a .1 .0 z (e .1 q)), (λ never. a .1 .1 (λ p. never (e .0 p)))),
 )
@@ -63,43 +64,42 @@ module _ (text : List ℕ) (d : Diagram) (taken : accepted text ≡ done d) wher
     abbrev cells-slice : List ℕ
     cells-slice = padded m (whole .codes)
 
-    light-is : (setting : List ℕ) (room : ℕ) → hostLight record-slice cells-slice setting room ≡ light (whole .head) cells-slice setting room
+    light-is : (setting : List ℕ) (room : ℕ) → hostLight record-slice cells-slice setting room ≡ light (whole .head) cells-slice setting (room / 2)
     light-is setting room = light-written (whole .head) outs-all n long cells-slice setting room
 
     lit-by :
         (setting before : List ℕ) (answer : ℕ) (after : List ℕ)
         → LightCall record-slice cells-slice setting before answer after
         → numberPart answer ≡ 0
-        → (a : Lit) × (light (whole .head) cells-slice setting (length before) ≡ done a) × (after ≡ padded (length before) (a .wires))
+        → (a : Lit) × (light (whole .head) cells-slice setting (length before / 2) ≡ done a) × (after ≡ padded (length before) (pairs (a .firsts)))
     unfolding bufferOf
     lit-by setting before answer after kept none =
         let room = length before in
         let found = calls-read .of-light record-slice cells-slice setting room .none-refused .0 (rw (kept .answer) at none) in
         let a = found .0 in
-        (a, sym (light-is setting room) ∙ found .1, kept .buffer ∙ ap (bufferOf room (λ (x : Lit). x .wires)) (found .1))
+        (a, sym (light-is setting room) ∙ found .1, kept .buffer ∙ ap (bufferOf room (λ (x : Lit). pairs (x .firsts))) (found .1))
 
     shown-whole :
         (setting before : List ℕ) (answer : ℕ) (after : List ℕ) (j : ℕ)
         → LightCall record-slice cells-slice setting before answer after
         → numberPart answer ≡ 0
         → j < length (d .outs)
-        → Tells (getD after (standsOn whole j) 0) (Reads whole setting j)
+        → Shows (numberAt after (standsOn whole j)) (Reads whole setting j)
     shown-whole setting before answer after j kept none h =
         let lit = lit-by setting before answer after kept none in
         let a = lit .0 in
-        let byte : getD after (standsOn whole j) 0 ≡ getD (a .wires) (standsOn whole j) 0 =
-        ap (λ (q : List ℕ). getD q (standsOn whole j) 0) (lit .2)
-        ∙ getD-padded-any (length before) (a .wires) (standsOn whole j) in
-        rw byte (claim .shown setting m (length before) a j fits (lit .1) h)
+        let number : numberAt after (standsOn whole j) ≡ getD (a .firsts) (standsOn whole j) 0 =
+        ap (λ (q : List ℕ). numberAt q (standsOn whole j)) (lit .2) ∙ numbers-back (length before) (a .firsts) (standsOn whole j) in
+        rw number (claim .shown setting m (length before / 2) a j fits (lit .1) h)
 
     lights-whole :
         (setting before : List ℕ) (answer : ℕ) (after : List ℕ)
         → LightCall record-slice cells-slice setting before answer after
         → isSetting (d .switches) setting ≡ true
-        → whole .head .rows + whole .head .columns ≤ length before
+        → 2 * (whole .head .rows + whole .head .columns) ≤ length before
         → numberPart answer ≡ 0
     lights-whole setting before answer after kept s room =
-        let lit = claim .lights setting m (length before) fits s room in
+        let lit = claim .lights setting m (length before / 2) fits s (omega (arith, room)) in
         rw (kept .answer)
         (calls-read .of-light record-slice cells-slice setting (length before) .none-refused .1 (lit .0, light-is setting (length before) ∙ lit .1))
 
@@ -206,11 +206,11 @@ module _ (text : List ℕ) (d : Diagram) (taken : accepted text ≡ done d) wher
           → LightCall head₁ cells₁ setting before answer after
           → numberPart answer ≡ 0
           → j < length (d .outs)
-          → Tells (getD after (standsOn (inBuffers head cells) j) 0) (Reads (inBuffers head cells) setting j)
+          → Shows (numberAt after (standsOn (inBuffers head cells) j)) (Reads (inBuffers head cells) setting j)
       shown setting before answer after j kept none h =
-          let byte : getD after (standsOn (inBuffers head cells) j) 0 ≡ getD after (standsOn whole j) 0 = ap (λ (k : ℕ). getD after k 0) (stands-same j) in
-          rw byte
-          (tells-same _ (Reads whole setting j) (Reads (inBuffers head cells) setting j) (Iff·symm (reads-same setting j))
+          let number : numberAt after (standsOn (inBuffers head cells) j) ≡ numberAt after (standsOn whole j) = ap (numberAt after) (stands-same j) in
+          rw number
+          (told-same _ _ (Reads whole setting j) (Reads (inBuffers head cells) setting j) (Iff·symm (reads-same setting j))
           (shown-whole (length head₁) (length cells₁) (holds .record-long) enough setting before answer after j
           (held-call setting before answer after kept) none h))
 
@@ -218,7 +218,7 @@ module _ (text : List ℕ) (d : Diagram) (taken : accepted text ≡ done d) wher
           (setting before : List ℕ) (answer : ℕ) (after : List ℕ)
           → LightCall head₁ cells₁ setting before answer after
           → isSetting (d .switches) setting ≡ true
-          → recordFrom head .rows + recordFrom head .columns ≤ length before
+          → 2 * (recordFrom head .rows + recordFrom head .columns) ≤ length before
           → numberPart answer ≡ 0
       lights setting before answer after kept s room =
           lights-whole (length head₁) (length cells₁) (holds .record-long) enough setting before answer after
@@ -230,7 +230,7 @@ module _ (text : List ℕ) (d : Diagram) (taken : accepted text ≡ done d) wher
         → numberPart answer ≡ 0
         → Tells (lowPart answer) (Reads (inBuffers head cells) setting j)
     walked setting j answer kept none =
-        tells-same _ (Reads whole setting j) (Reads (inBuffers head cells) setting j) (Iff·symm (reads-same setting j))
+        told-same _ _ (Reads whole setting j) (Reads (inBuffers head cells) setting j) (Iff·symm (reads-same setting j))
         (claim .walked setting j (lowPart answer) (walked-by setting j answer kept none))
 
     buffers-agree : BuffersAgree text d head cells

@@ -10,7 +10,7 @@ use lib.Dec.{eqb, ltb}
 use borrow.Author.Tests.{ltb-true, lt-ltb, le-ltb, eqb-true, eq-eqb, not-false}
 use Rattle.common.specs.Lists.{bit, padded}
 use Rattle.common.specs.Outcome.{done, _then_, _when_, lowest, unless}
-use Rattle.common.proofs.Lists.{and-left, and-right, and-both, bit-one, getD-padded, getD-map-at}
+use Rattle.common.proofs.Lists.{equal-or-not, and-left, and-right, and-both, bit-one, getD-padded, getD-map-at}
 use Rattle.common.proofs.Outcome.{unless-done, not-met}
 use Rattle.cells.specs.Record.{Whole, size}
 use Rattle.cells.specs.Setting.{isSetting}
@@ -30,13 +30,13 @@ use Rattle.conduction.specs.Chain.{row, place, Within}
 use Rattle.conduction.specs.Light.{Lit, light, joined, litBy}
 use Rattle.conduction.proofs.Light.{light-answers, light-accepts}
 use Rattle.conduction.proofs.Slices.{joined-same, light-same}
-use Rattle.agreement.specs.Demand3.{Demand3, Reads, WalksToOne, Tells, standsOn}
+use Rattle.agreement.specs.Demand3.{Demand3, Reads, WalksToOne, Tells, Shows, standsOn}
 
 -- the crossbar of a diagram
 abbrev whole : Diagram → Whole
 whole d = record { head = crossbar d; codes = cells d }
 
--- a byte that is 1 exactly when a statement holds, and is 0 or 1, tells whether it holds
+-- a value that is 1 exactly when a statement holds, and is 0 or 1, tells whether it holds
 tells : (b : ℕ) (P : Type 0) → (b ≡ 0) ⊎ (b ≡ 1) → (b ≡ 1) ↔ P → Tells b P
 tells b P bits e = (
   e,
@@ -46,7 +46,17 @@ tells b P bits e = (
   ),
 )
 
--- so does the value of a walk's end
+-- a number that is not 0 exactly when a statement holds shows whether it holds
+shows : (n : ℕ) (P : Type 0) → (n ≡ 0 → ⊥) ↔ P → Shows n P
+shows n P e = (
+  e,
+  (
+    (λ z p. e .1 p z),
+    (λ never. ⊎-elim (λ (z : n ≡ 0). z) (λ (some : n ≡ 0 → ⊥). absurd (never (e .0 some))) (equal-or-not n 0)),
+  ),
+)
+
+-- the value of a walk's end tells whether it is one
 value-tells : (e : ℕ) (P : Type 0) → P ↔ (e ≡ 1) → Tells (bit (eqb e 1)) P
 unfolding bit
 value-tells e P reads =
@@ -130,12 +140,12 @@ module _ (text : List ℕ) (d : Diagram) (facts : Facts d) (sizes : Sizes d) whe
       → size (crossbar d) ≤ n
       → light (crossbar d) (padded n (cells d)) setting room ≡ done a
       → j < length (d .outs)
-      → Tells (getD (a .wires) (standsOn (whole d) j) 0) (Reads (whole d) setting j)
+      → Shows (getD (a .firsts) (standsOn (whole d) j) 0) (Reads (whole d) setting j)
   unfolding crossbar place Within
   shown setting n room a j fits lights h =
       let answer = light-answers (crossbar d) (padded n (cells d)) setting room a lights .answer in
       let r = standsOn (whole d) j in
-      tells (getD (a .wires) r 0) (Reads (whole d) setting j) (answer .bits r)
+      shows (getD (a .firsts) r 0) (Reads (whole d) setting j)
       (rw (joined-same (crossbar d) (cells d) n setting) at (answer .chains (row r) (row-within j h)))
 
   lights :

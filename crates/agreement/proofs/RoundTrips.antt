@@ -1,5 +1,5 @@
 -- The round trips of the calls, from those of listings: what one call leaves in its buffers is what the next one reads.
-use Prim.Native.Nat.{ℕ, _-_, _≤_}
+use Prim.Native.Nat.{ℕ, _/_, _-_, _≤_}
 use mathlib.Core.Path.{_≡_, refl, sym, ap, _∙_}
 use mathlib.Core.Bool.{true, not}
 use mathlib.Core.List.{List, [], _++_}
@@ -23,7 +23,7 @@ use Rattle.listings.specs.Loading.{load}
 use Rattle.listings.proofs.Loaded.{loaded-text, loaded-outs}
 use Rattle.listings.proofs.Printed.{taken-padded}
 use Rattle.listings.proofs.RoundTrip.{print-done, load-printed, print-load-padded}
-use Rattle.crossbar.specs.Bytes.{recordLength, recordBytes, recordFrom, holdsRecord}
+use Rattle.crossbar.specs.Bytes.{pairs, recordLength, recordBytes, recordFrom, holdsRecord}
 use Rattle.crossbar.specs.Host.{packed, cellsDue, forRecord, ofRecord, hostLoad, hostLight, hostPrint, MapCall, LightCall, PrintCall, LoadCall}
 use Rattle.crossbar.specs.Parts.{numberPart, lowPart}
 use Rattle.crossbar.proofs.Pairs.{record-again}
@@ -206,24 +206,24 @@ load-print text head₀ cells₀ loaded head cells text₀ printed text₁ kept 
     )
 
 load-light :
-    (text head₀ cells₀ : List ℕ) (loaded : ℕ) (head cells setting wires₀ : List ℕ) (lit : ℕ) (wires : List ℕ)
+    (text head₀ cells₀ : List ℕ) (loaded : ℕ) (head cells setting firsts₀ : List ℕ) (lit : ℕ) (firsts : List ℕ)
     → LoadCall text head₀ cells₀ loaded head cells
     → numberPart loaded ≡ 0
-    → LightCall head cells setting wires₀ lit wires
+    → LightCall head cells setting firsts₀ lit firsts
     → (w : Whole)
     × (load text (length cells₀) ≡ done w)
-    × Answered (light (w .head) (w .codes) setting (length wires₀)) (packed (λ a. a .count)) (λ a. a .wires) (length wires₀) lit wires
-load-light text head₀ cells₀ loaded head cells setting wires₀ lit wires kept none then-kept =
+    × Answered (light (w .head) (w .codes) setting (length firsts₀ / 2)) (packed (λ a. a .count)) (λ a. pairs (a .firsts)) (length firsts₀) lit firsts
+load-light text head₀ cells₀ loaded head cells setting firsts₀ lit firsts kept none then-kept =
     let n = length head₀ in
     let m = length cells₀ in
-    let room = length wires₀ in
+    let room = length firsts₀ in
     let l = loaded-by text head₀ cells₀ loaded head cells kept none in
     let w = l .whole in
-    let outcome : hostLight head cells setting room ≡ light (w .head) (w .codes) setting room =
+    let outcome : hostLight head cells setting room ≡ light (w .head) (w .codes) setting (room / 2) =
     ap (λ (h : List ℕ). hostLight h cells setting room) (l .head-is)
     ∙ light-written (w .head) (loaded-outs text m w (l .outcome)) n (l .long) cells setting room
-    ∙ ap (λ (c : List ℕ). light (w .head) c setting room) (l .cells-are)
-    ∙ light-same (w .head) (w .codes) m setting room (sound-facts (w .head) (w .codes) (loaded-text text m w (l .outcome) .0) .enough) in
+    ∙ ap (λ (c : List ℕ). light (w .head) c setting (room / 2)) (l .cells-are)
+    ∙ light-same (w .head) (w .codes) m setting (room / 2) (sound-facts (w .head) (w .codes) (loaded-text text m w (l .outcome) .0) .enough) in
     (w, l .outcome, rw outcome at then-kept)
 
 map-print-load :

@@ -2,7 +2,7 @@
 -- ground that document 01 lists is refused. MapCall and the others are the contracts of the calls (crates/crossbar/specs/Host.antt), and
 -- numberPart is CROSSBAR_NUMBER of include/crossbar.h, which is 0 where nothing is refused.
 -- The proof is `calls-accept` in proofs/Acceptance.antt: CallsAccept.
-use Prim.Native.Nat.{ℕ, _+_, _≤_, _<_}
+use Prim.Native.Nat.{ℕ, _+_, _*_, _≤_, _<_}
 use mathlib.Core.Path.{_≡_}
 use mathlib.Core.Logic.{_↔_}
 use mathlib.Core.Bool.{true}
@@ -35,12 +35,12 @@ pub record Walkable (text setting : List ℕ) (j : ℕ) : Type 0 where
   pub set : isSetting (diagram .switches) setting ≡ true
   pub below : j < length (diagram .outs)
 
--- light: a slice that holds a record, which ground 12 does not refuse with these cells, a setting of its switches, and R + C bytes
+-- light: a slice that holds a record, which ground 12 does not refuse with these cells, a setting of its switches, and 2·(R + C) bytes
 pub record Lightable (head cells setting : List ℕ) (room : ℕ) : Type 0 where
   pub holds : holdsRecord head ≡ true
   pub right : sound (recordFrom head) cells ≡ true
   pub set : isSetting (recordFrom head .switches) setting ≡ true
-  pub wires-room : recordFrom head .rows + recordFrom head .columns ≤ room
+  pub firsts-room : 2 * (recordFrom head .rows + recordFrom head .columns) ≤ room
 
 -- print: such a record and cells, and bytes enough for the text
 pub record Printable (head cells : List ℕ) (room : ℕ) : Type 0 where
@@ -68,9 +68,9 @@ pub record CallsAccept : Type 0 where
       → WalkCall text setting j answer
       → (numberPart answer ≡ 0) ↔ Walkable text setting j
   pub light :
-      (head cells setting wires₀ : List ℕ) (answer : ℕ) (wires : List ℕ)
-      → LightCall head cells setting wires₀ answer wires
-      → (numberPart answer ≡ 0) ↔ Lightable head cells setting (length wires₀)
+      (head cells setting firsts₀ : List ℕ) (answer : ℕ) (firsts : List ℕ)
+      → LightCall head cells setting firsts₀ answer firsts
+      → (numberPart answer ≡ 0) ↔ Lightable head cells setting (length firsts₀)
   pub print :
       (head cells text₀ : List ℕ) (answer : ℕ) (text : List ℕ)
       → PrintCall head cells text₀ answer text

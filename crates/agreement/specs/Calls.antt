@@ -3,7 +3,7 @@
 -- (crates/crossbar/specs/Host.antt), and numberPart and lowPart are CROSSBAR_NUMBER and CROSSBAR_VALUE of include/crossbar.h.
 -- Light may be given the buffers that map filled, or other slices that hold the same crossbar (Holds).
 -- The statement is Demand3OfCalls, and its proof `calls-agree` in proofs/Calls.antt.
-use Prim.Native.Nat.{ℕ, _+_, _≤_, _<_}
+use Prim.Native.Nat.{ℕ, _+_, _*_, _≤_, _<_}
 use mathlib.Core.Path.{_≡_}
 use mathlib.Core.Logic.{_↔_}
 use mathlib.Core.Bool.{true}
@@ -16,10 +16,10 @@ use Rattle.cells.specs.Setting.{isSetting}
 use Rattle.diagram.specs.Diagram.{Diagram}
 use Rattle.jobs.specs.Job.{accepted}
 use Rattle.placement.specs.Placement as placement
-use Rattle.crossbar.specs.Bytes.{recordLength, recordFrom}
+use Rattle.crossbar.specs.Bytes.{recordLength, numberAt, recordFrom}
 use Rattle.crossbar.specs.Host.{MapCall, LightCall, WalkCall}
 use Rattle.crossbar.specs.Parts.{numberPart, lowPart}
-use Rattle.agreement.specs.Demand3.{Reads, WalksToOne, Tells, standsOn}
+use Rattle.agreement.specs.Demand3.{Reads, WalksToOne, Tells, Shows, standsOn}
 
 -- the crossbar that stands in a record's buffer and in a cells' buffer; bytes past its R·C cells are no cells of it
 unfoldable pub inBuffers : List ℕ → List ℕ → Whole
@@ -56,21 +56,21 @@ pub record BuffersAgree (text : List ℕ) (d : Diagram) (head cells : List ℕ) 
       ↔ (standsOn (inBuffers head cells) i ≡ standsOn (inBuffers head cells) j)
   -- these two buffers hold this crossbar, and so may others, to which the host copied it or load wrote it
   pub held : Holds head cells head cells
-  -- light, given slices that hold this crossbar and a setting, answers the reading by the byte at the output's row, unless it refuses
+  -- light, given slices that hold this crossbar and a setting, answers the reading by the number of the output's row, unless it refuses
   pub shown :
-      (head₁ cells₁ setting wires₀ : List ℕ) (answer : ℕ) (wires : List ℕ) (j : ℕ)
+      (head₁ cells₁ setting firsts₀ : List ℕ) (answer : ℕ) (firsts : List ℕ) (j : ℕ)
       → Holds head cells head₁ cells₁
-      → LightCall head₁ cells₁ setting wires₀ answer wires
+      → LightCall head₁ cells₁ setting firsts₀ answer firsts
       → numberPart answer ≡ 0
       → j < length (d .outs)
-      → Tells (getD wires (standsOn (inBuffers head cells) j) 0) (Reads (inBuffers head cells) setting j)
-  -- it refuses neither a setting of the job's switches nor a buffer of R + C bytes
+      → Shows (numberAt firsts (standsOn (inBuffers head cells) j)) (Reads (inBuffers head cells) setting j)
+  -- it refuses neither a setting of the job's switches nor a buffer of 2·(R + C) bytes
   pub lights :
-      (head₁ cells₁ setting wires₀ : List ℕ) (answer : ℕ) (wires : List ℕ)
+      (head₁ cells₁ setting firsts₀ : List ℕ) (answer : ℕ) (firsts : List ℕ)
       → Holds head cells head₁ cells₁
-      → LightCall head₁ cells₁ setting wires₀ answer wires
+      → LightCall head₁ cells₁ setting firsts₀ answer firsts
       → isSetting (d .switches) setting ≡ true
-      → recordFrom head .rows + recordFrom head .columns ≤ length wires₀
+      → 2 * (recordFrom head .rows + recordFrom head .columns) ≤ length firsts₀
       → numberPart answer ≡ 0
   -- walk, given the job, a setting and an output number, answers the reading by its value, unless it refuses
   pub walked :

@@ -34,9 +34,14 @@ Reads w setting j = Chain (w .head .rows) (w .head .columns) (joined (w .head) (
 abbrev pub WalksToOne : Diagram → List ℕ → ℕ → Type 0
 WalksToOne d setting j = walkEnd d setting (getD (d .outs) j 0) ≡ 1
 
--- a byte tells whether a statement holds: it is 1 exactly when the statement holds, and 0 exactly when it does not
+-- a value tells whether a statement holds: it is 1 exactly when the statement holds, and 0 exactly when it does not
 abbrev pub Tells : ℕ → Type 0 → Type 0
 Tells b P = ((b ≡ 1) ↔ P) × ((b ≡ 0) ↔ (P → ⊥))
+
+-- a number shows whether a statement holds: it is not 0 exactly when the statement holds, and 0 exactly when it does not. Document 02, Req
+-- 01: "An output reads 1 exactly when its number is not 0."
+abbrev pub Shows : ℕ → Type 0 → Type 0
+Shows n P = ((n ≡ 0 → ⊥) ↔ P) × ((n ≡ 0) ↔ (P → ⊥))
 
 -- d is what the accepted text says
 pub record Demand3 (text : List ℕ) (d : Diagram) : Type 0 where
@@ -62,15 +67,15 @@ pub record Demand3 (text : List ℕ) (d : Diagram) : Type 0 where
       → j < length (d .outs)
       → ((setting : List ℕ) → isSetting (d .switches) setting ≡ true → Reads whole setting i ↔ Reads whole setting j)
       ↔ (standsOn whole i ≡ standsOn whole j)
-  -- light, given this crossbar, in a slice of any length that holds it with zeros past it, and a setting, answers the reading at the
-  -- output's row, unless it refuses
+  -- light, given this crossbar, in a slice of any length that holds it with zeros past it, and a setting, answers the reading by the number
+  -- of the output's row, unless it refuses
   pub shown :
       (setting : List ℕ) (length-of-slice room : ℕ) (a : Lit) (j : ℕ)
       → size (whole .head) ≤ length-of-slice
       → light (whole .head) (padded length-of-slice (whole .codes)) setting room ≡ done a
       → j < length (d .outs)
-      → Tells (getD (a .wires) (standsOn whole j) 0) (Reads whole setting j)
-  -- it refuses neither a setting of the job's switches nor a buffer of R + C bytes
+      → Shows (getD (a .firsts) (standsOn whole j) 0) (Reads whole setting j)
+  -- it refuses neither a setting of the job's switches nor a buffer of R + C numbers
   pub lights :
       (setting : List ℕ) (length-of-slice room : ℕ)
       → size (whole .head) ≤ length-of-slice

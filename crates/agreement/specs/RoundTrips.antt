@@ -3,7 +3,7 @@
 -- (crates/crossbar/specs/Host.antt), and numberPart and lowPart are CROSSBAR_NUMBER and CROSSBAR_VALUE of include/crossbar.h. A text that
 -- print left in a buffer is handed to load as its first bytes, as many as print's value says.
 -- The proof is `round-trips` in proofs/RoundTrips.antt: RoundTrips.
-use Prim.Native.Nat.{ℕ, _≤_}
+use Prim.Native.Nat.{ℕ, _/_, _≤_}
 use mathlib.Core.Path.{_≡_}
 use mathlib.Core.Bool.{true}
 use mathlib.Core.List.{List}
@@ -14,7 +14,7 @@ use Rattle.common.specs.Outcome.{done, Answered}
 use Rattle.cells.specs.Record.{Whole, size}
 use Rattle.conduction.specs.Light.{light}
 use Rattle.listings.specs.Loading.{load}
-use Rattle.crossbar.specs.Bytes.{recordLength, recordFrom}
+use Rattle.crossbar.specs.Bytes.{pairs, recordLength, recordFrom}
 use Rattle.crossbar.specs.Host.{packed, MapCall, LightCall, PrintCall, LoadCall}
 use Rattle.crossbar.specs.Parts.{numberPart, lowPart}
 use Rattle.agreement.specs.Calls.{Holds}
@@ -56,13 +56,13 @@ pub record RoundTrips : Type 0 where
       → (numberPart printed ≡ 0) × (lowPart printed ≡ length text) × (text₁ ≡ padded (length text₀) text)
   -- load, and then light: it answers as it does for the listing's crossbar
   pub load-light :
-      (text head₀ cells₀ : List ℕ) (loaded : ℕ) (head cells setting wires₀ : List ℕ) (lit : ℕ) (wires : List ℕ)
+      (text head₀ cells₀ : List ℕ) (loaded : ℕ) (head cells setting firsts₀ : List ℕ) (lit : ℕ) (firsts : List ℕ)
       → LoadCall text head₀ cells₀ loaded head cells
       → numberPart loaded ≡ 0
-      → LightCall head cells setting wires₀ lit wires
+      → LightCall head cells setting firsts₀ lit firsts
       → (w : Whole)
       × (load text (length cells₀) ≡ done w)
-      × Answered (light (w .head) (w .codes) setting (length wires₀)) (packed (λ a. a .count)) (λ a. a .wires) (length wires₀) lit wires
+      × Answered (light (w .head) (w .codes) setting (length firsts₀ / 2)) (packed (λ a. a .count)) (λ a. pairs (a .firsts)) (length firsts₀) lit firsts
   -- map, print, and then load into buffers as long as map's: the same answer and the same bytes
   pub map-print-load :
       (job head₀ cells₀ : List ℕ) (mapped : ℕ) (head cells text₀ : List ℕ) (printed : ℕ) (text head₂ cells₂ : List ℕ) (loaded : ℕ) (head₁ cells₁ : List ℕ)

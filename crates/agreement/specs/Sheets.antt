@@ -27,10 +27,10 @@ numbers o = valueOf [] (λ w. w .head .rows ∷ w .head .columns ∷ w .codes ++
 unfoldable pub refusal : Outcome Whole → List ℕ
 refusal o = numberOf o ∷ lineOf o ∷ []
 
--- the rounds and the lit wires of a crossbar under a setting
+-- the rounds and the first rounds of a crossbar's wires under a setting
 unfoldable pub lamp : List ℕ → Outcome Whole → List ℕ
 lamp setting o =
-    valueOf [] (λ w. valueOf [] (λ a. a .count ∷ a .wires) (light (w .head) (w .codes) setting (maxRows + maxColumns))) o
+    valueOf [] (λ w. valueOf [] (λ a. a .count ∷ a .firsts) (light (w .head) (w .codes) setting (maxRows + maxColumns))) o
 
 unfoldable pub jobA : List ℕ
 jobA = bytes "(job 2 2 1)\n(one h)\n(node 2 1 (0 1) v)\n(node 3 0 (0 2) h)\n(out 0 3)\n(end)\n"
@@ -57,12 +57,15 @@ sheets =
     -- B: A under 1 1, rounds 2, reads 1
     ∷ record
     { given = lightProgram (bytes "(set 1 1)\n" ++ listingA); wanted = bytes "(rounds 2)\n(reads 0 1)\n(end)\n" }
+    ∷ record { given = lamp (1 ∷ 1 ∷ []) (mapJob jobA 2); wanted = 2 ∷ 1 ∷ 3 ∷ 2 ∷ [] }
     -- C: under 1 0, rounds 0, reads 0
     ∷ record
     { given = lightProgram (bytes "(set 1 0)\n" ++ listingA); wanted = bytes "(rounds 0)\n(reads 0 0)\n(end)\n" }
+    ∷ record { given = lamp (1 ∷ 0 ∷ []) (mapJob jobA 2); wanted = 0 ∷ 1 ∷ 0 ∷ 0 ∷ [] }
     -- D: under 0 1, rounds 1, reads 0
     ∷ record
     { given = lightProgram (bytes "(set 0 1)\n" ++ listingA); wanted = bytes "(rounds 1)\n(reads 0 0)\n(end)\n" }
+    ∷ record { given = lamp (0 ∷ 1 ∷ []) (mapJob jobA 2); wanted = 1 ∷ 1 ∷ 0 ∷ 2 ∷ [] }
     -- E: R = C = 2, cells by row: yes 1, yes 0; no 0, on; the output on row 1
     ∷ record {
       given = numbers (mapJob jobE 4);
@@ -70,9 +73,9 @@ sheets =
     }
     -- F: refusal 9, line 4
     ∷ record { given = refusal (mapJob jobF 4); wanted = 9 ∷ 4 ∷ [] }
-    -- G: R = 2, C = 0, output rows 1 and 0; rounds 0
+    -- G: R = 2, C = 0, output rows 1 and 0; rounds 0; row 0 is lit before round 1
     ∷ record { given = numbers (mapJob jobG 0); wanted = 2 ∷ 0 ∷ 1 ∷ 0 ∷ [] }
     ∷ record { given = lamp [] (mapJob jobG 0); wanted = 0 ∷ 1 ∷ 0 ∷ [] }
-    -- H: lit r0, r2, c0; rounds 2
-    ∷ record { given = lamp [] (load listingH 6); wanted = 2 ∷ 1 ∷ 0 ∷ 1 ∷ 1 ∷ 0 ∷ [] }
+    -- H: lit r0, r2, c0; rounds 2; c0 is first lit in round 1 and r2 in round 2
+    ∷ record { given = lamp [] (load listingH 6); wanted = 2 ∷ 1 ∷ 0 ∷ 3 ∷ 2 ∷ 0 ∷ [] }
     ∷ []

@@ -43,3 +43,14 @@ pub fn clear(out: &mut [u8])
         i += 1;
     }
 }
+
+// The same of a buffer of 16-bit numbers.
+pub fn clear_numbers(out: &mut [u16])
+    ensures { λ r. ⌜ now (out .exit) ≡ zeros (length (now (out .entry))) ⌝ }
+{
+    let mut place = 0;
+    while place < out.len() {
+        out[place] = 0;
+        place += 1;
+    }
+}

@@ -11,12 +11,13 @@ use lib.ListN.{length, getD}
 use lib.Dec.{ltb}
 use borrow.Author.Tests.{not-true, not-false, lt-ltb, le-ltb}
 use Rattle.common.specs.Limits.{maxRows, maxColumns}
-use Rattle.common.specs.Lists.{same}
-use Rattle.common.proofs.Lists.{same-eq, at-or-below, below-or-not, equal-or-not, not-zero, length-tab, getD-tab}
-use Rattle.conduction.specs.Round.{atRest}
-use Rattle.conduction.specs.First.{stamped, startStamps, stampsAfter, Rounded, Counted}
+use Rattle.common.specs.Lists.{tab}
+use Rattle.common.proofs.Lists.{at-or-below, below-or-not, equal-or-not, not-zero, length-tab, getD-tab}
+use Rattle.conduction.specs.Round.{atRest, isNew}
+use Rattle.conduction.specs.First.{stampsAfter, Rounded, Counted}
 use Rattle.conduction.specs.Wires.{unit, placeOf, wireOf, inOrder, passing, Sided, Standing, Fits, Turned}
-use Rattle.conduction.proofs.Stamps.{start-stamp, start-one, rest-by-stamps}
+use Rattle.conduction.proofs.First.{first-most}
+use Rattle.conduction.proofs.Stamps.{stamps-entry, stamps-next, stamps-rest, start-one, start-none}
 use Rattle.conduction.proofs.Turns.{place-wire}
 use Rattle.conduction.proofs.Crossing.{row-small, column-small}
 
@@ -27,8 +28,7 @@ pub record Going (m n : ℕ) (joined : ℕ → ℕ → Bool) (k t : ℕ) (stamps
   pub adding : (s : ℕ) → s < t → atRest m n joined s ≡ false
 
 module _ (m n : ℕ) (joined : ℕ → ℕ → Bool) (k : ℕ) (row-0 : 0 < m) (room : m + n ≤ k) where
-  pub going-start : (stamps : List ℕ) → stamps ≡ startStamps k → Going m n joined k 0 stamps
-  unfolding stampsAfter
+  pub going-start : (stamps : List ℕ) → stamps ≡ stampsAfter k m n joined 0 → Going m n joined k 0 stamps
   going-start stamps e = record { upto = omega arith; so-far = e; adding = λ s h. absurd (omega arith) }
 
   module _ (t : ℕ) (stamps : List ℕ) (going : Going m n joined k t stamps) where
@@ -42,18 +42,17 @@ module _ (m n : ℕ) (joined : ℕ → ℕ → Bool) (k : ℕ) (row-0 : 0 < m) (
 
     module _ (after : List ℕ) (added : Bool) (ran : Rounded m n joined t stamps after added) where
       after-is : after ≡ stampsAfter k m n joined (suc t)
-      unfolding stampsAfter
-      after-is = ran .stamps ∙ ap (stamped m n joined t) (going .so-far)
-
-      rest-is : same stamps after ≡ atRest m n joined t
-      rest-is = rw (after-is, going .so-far) (rest-by-stamps m n joined k row-0 room t)
+      after-is =
+          ran .stamps
+          ∙ ap (λ (s : List ℕ). tab (length s) (λ v. elim (isNew m n joined t v) [ true ↦ t + 2 | false ↦ getD s v 0 ])) (going .so-far)
+          ∙ stamps-next m n joined k t room
 
       pub rest-found : added ≡ false → Counted m n joined k t after
       rest-found h =
-          let unchanged : same stamps after ≡ true = not-false (same stamps after) (sym (ran .adds) ∙ h) in
+          let rest = not-false (atRest m n joined t) (sym (ran .adds) ∙ h) in
           record {
-            count-rests = record { least = going .adding; rests = λ p. sym rest-is ∙ unchanged; most = going .upto };
-            stamps = sym (same-eq stamps after unchanged) ∙ going .so-far;
+            count-rests = record { least = going .adding; rests = λ p. rest; most = going .upto };
+            stamps = after-is ∙ stamps-rest m n joined k t rest;
           }
 
       pub going-on : added ≡ true → t < m + n → Going m n joined k (t + 1) after
@@ -64,22 +63,24 @@ module _ (m n : ℕ) (joined : ℕ → ℕ → Bool) (k : ℕ) (row-0 : 0 < m) (
             adding =
                 λ s q.
                 ⊎-elim
-                (λ (e : s ≡ t). rw e (sym rest-is ∙ not-true (same stamps after) (sym (ran .adds) ∙ h)))
+                (λ (e : s ≡ t). rw e (not-true (atRest m n joined t) (sym (ran .adds) ∙ h)))
                 (λ (q : s < t). going .adding s q)
                 (at-or-below s t (omega arith));
           }
 
 -- "Before round 1 only row 0 is lit": the wires in rising order
-module _ (m n k : ℕ) (row-0 : 0 < m) (room : m + n ≤ k) where
+module _ (m n k : ℕ) (joined : ℕ → ℕ → Bool) (row-0 : 0 < m) where
   -- the stamps then
-  dark-start : (v : ℕ) → 0 < v → getD (startStamps k) v 0 ≡ 0
-  dark-start v h =
-      ⊎-elim
-      (λ e. e)
-      (λ (e : (getD (startStamps k) v 0 ≡ 1) × (v ≡ 0)). absurd (omega (arith, e .1)))
-      (start-stamp m n (λ r c. false) k row-0 room v)
+  abbrev starts : List ℕ
+  starts = stampsAfter k m n joined 0
 
-  lit-start : (v : ℕ) → getD (startStamps k) v 0 ≡ 1 → v ≡ 0
+  dark-start : (v : ℕ) → 0 < v → getD starts v 0 ≡ 0
+  dark-start v h = stamps-entry m n joined k 0 v ∙ start-none m n joined row-0 v h
+
+  one-start : getD starts 0 0 ≡ 1
+  one-start = stamps-entry m n joined k 0 0 ∙ start-one m n joined row-0
+
+  lit-start : (v : ℕ) → getD starts v 0 ≡ 1 → v ≡ 0
   lit-start v e =
       ⊎-elim
       (λ (z : v ≡ 0). z)
@@ -98,7 +99,7 @@ module _ (m n k : ℕ) (row-0 : 0 < m) (room : m + n ≤ k) where
     place : (x : ℕ) → x < size → placeOf (getD (inOrder first step size) x 0) ≡ first + x
     place x h = ap placeOf (entry x h) ∙ place-wire first step x (small x h)
 
-    sided-start : (dark : ℕ) → dark ≤ size → ((x : ℕ) → dark ≤ x → 0 < first + x) → ((x : ℕ) → x < dark → first + x ≡ 0) → Sided first step (inOrder first step size) (startStamps k) dark
+    sided-start : (dark : ℕ) → dark ≤ size → ((x : ℕ) → dark ≤ x → 0 < first + x) → ((x : ℕ) → x < dark → first + x ≡ 0) → Sided first step (inOrder first step size) starts dark
     sided-start dark h later lit =
         record {
           within = omega (arith, long);
@@ -108,7 +109,7 @@ module _ (m n k : ℕ) (row-0 : 0 < m) (room : m + n ≤ k) where
               λ x p e.
               ⊎-elim
               (λ (q : x < dark).
-              let one : getD (startStamps k) (first + x) 0 ≡ 1 = rw (lit x q) (start-one m n (λ r c. false) k row-0 room) in
+              let one : getD starts (first + x) 0 ≡ 1 = rw (lit x q) one-start in
               absurd (omega arith))
               (λ (q : dark ≤ x). (x, q, p, entry x (omega (arith, long))))
               (below-or-not x dark);
@@ -116,18 +117,13 @@ module _ (m n k : ℕ) (row-0 : 0 < m) (room : m + n ≤ k) where
 
   pub standing-start :
       (rows columns stamps : List ℕ) → ((r : ℕ) → r < m → r * n < unit) → ((c : ℕ) → c < n → c * 1 < unit)
-      → rows ≡ inOrder 0 n m → columns ≡ inOrder m 1 n → stamps ≡ startStamps k → Standing rows columns stamps 0 0 1 0
+      → rows ≡ inOrder 0 n m → columns ≡ inOrder m 1 n → stamps ≡ starts → Standing rows columns stamps 0 0 1 0
   standing-start rows columns stamps small small′ is-rows is-columns is-stamps =
       let long-rows : length rows ≡ m = ap length is-rows ∙ long 0 n m small in
       let long-columns : length columns ≡ n = ap length is-columns ∙ long m 1 n small′ in
       record {
         most =
-            λ v.
-            rw is-stamps
-            (⊎-elim
-            (λ (e : getD (startStamps k) v 0 ≡ 0). omega arith)
-            (λ (e : (getD (startStamps k) v 0 ≡ 1) × (v ≡ 0)). omega (arith, e .0))
-            (start-stamp m n (λ r c. false) k row-0 room v));
+            λ v. rw is-stamps (omega (arith, stamps-entry m n joined k 0 v, first-most m n joined 0 v));
         even =
             λ e.
             rw (long-rows, long-columns, is-rows, is-columns, is-stamps)
@@ -139,7 +135,7 @@ module _ (m n k : ℕ) (row-0 : 0 < m) (room : m + n ≤ k) where
                     stamped =
                         λ x p q.
                         let z : x ≡ 0 = omega arith in
-                        rw z (ap (λ (v : ℕ). getD (startStamps k) v 0) (place 0 n m small 0 row-0) ∙ start-one m n (λ r c. false) k row-0 room);
+                        rw z (ap (λ (v : ℕ). getD starts v 0) (place 0 n m small 0 row-0) ∙ one-start);
                     all = λ x p l. let z = lit-start (0 + x) l in (x, omega arith, omega arith, entry 0 n m small x (omega (arith, long 0 n m small)));
                   };
               lit = sided-start 0 n m small 1 (omega arith) (λ x p. omega arith) (λ x p. omega arith);
@@ -162,7 +158,7 @@ pub record Running (on cells : List ℕ) (m n k : ℕ) (rows columns stamps : Li
 module _ (on cells : List ℕ) (m n k : ℕ) (rows columns stamps : List ℕ) where
   pub running-start :
       (rows′ columns′ : List ℕ) → Fits on cells rows columns stamps → 0 < m → length rows ≡ m → length columns ≡ n → length stamps ≡ k
-      → rows′ ≡ inOrder 0 n m → columns′ ≡ inOrder m 1 n → length rows′ ≡ m → length columns′ ≡ n → stamps ≡ startStamps k
+      → rows′ ≡ inOrder 0 n m → columns′ ≡ inOrder m 1 n → length rows′ ≡ m → length columns′ ≡ n → stamps ≡ stampsAfter k m n (passing on cells n) 0
       → Running on cells m n k rows′ columns′ stamps 0 0 1 0
   running-start rows′ columns′ fits row-0 long-rows long-columns long-stamps is-rows is-columns long-rows′ long-columns′ is-stamps =
       let room : m + n ≤ k = omega (arith, fits .wires-fit) in
@@ -172,6 +168,7 @@ module _ (on cells : List ℕ) (m n k : ℕ) (rows columns stamps : List ℕ) wh
         fits =
             record {
               table = fits .table;
+              row-0 = omega (arith, long-rows′);
               cells-fit = rw (long-rows′, long-columns′) (rw (long-rows, long-columns) at (fits .cells-fit));
               wires-fit = omega (arith, fits .wires-fit);
               rows-fit = omega (arith, fits .rows-fit);
@@ -183,13 +180,17 @@ module _ (on cells : List ℕ) (m n k : ℕ) (rows columns stamps : List ℕ) wh
         long-stamps = long-stamps;
         going = going-start m n (passing on cells n) k row-0 room stamps is-stamps;
         standing =
-            standing-start m n k row-0 room rows′ columns′ stamps (row-small m n on cells rows-fit columns-fit)
+            standing-start m n k (passing on cells n) row-0 rows′ columns′ stamps (row-small m n on cells rows-fit columns-fit)
             (column-small m n on cells rows-fit columns-fit) is-rows is-columns is-stamps;
       }
 
   module _ (t head tail dark : ℕ) (running : Running on cells m n k rows columns stamps t head tail dark) where
     room : m + n ≤ k
     room = omega (arith, running .fits .wires-fit, running .long-rows, running .long-columns, running .long-stamps)
+
+    -- the stamps are the first rounds so far
+    pub running-so-far : stamps ≡ stampsAfter (length stamps) (length rows) (length columns) (passing on cells (length columns)) t
+    running-so-far = rw (running .long-stamps, running .long-rows, running .long-columns) (running .going .so-far)
 
     -- as many rounds as there are wires
     pub running-none : m + n ≤ t → Counted m n (passing on cells n) k t stamps
@@ -214,6 +215,7 @@ module _ (on cells : List ℕ) (m n k : ℕ) (rows columns stamps : List ℕ) wh
             fits =
                 record {
                   table = running .fits .table;
+                  row-0 = omega (arith, running .fits .row-0);
                   cells-fit = rw (same-rows, same-columns) (running .fits .cells-fit);
                   wires-fit = omega (arith, running .fits .wires-fit);
                   rows-fit = omega (arith, running .fits .rows-fit);

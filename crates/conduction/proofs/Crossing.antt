@@ -12,9 +12,10 @@ use lib.Seq.{ext-getD}
 use lib.Dec.{ltb}
 use borrow.Author.Tests.{lt-ltb, le-ltb}
 use Rattle.common.specs.Limits.{maxRows, maxColumns}
-use Rattle.common.specs.Lists.{same}
-use Rattle.common.proofs.Lists.{by-test, below-or-not, equal-or-not, not-zero, same-eq, eq-same, within-grid}
-use Rattle.conduction.specs.First.{meets, stamp, reached, stamped, Rounded}
+use Rattle.common.specs.Lists.{tab}
+use Rattle.common.proofs.Lists.{by-test, below-or-not, equal-or-not, not-zero, length-tab, getD-tab, within-grid}
+use Rattle.conduction.specs.Round.{atRest, isNew, firstRound}
+use Rattle.conduction.specs.First.{stampsAfter, Rounded}
 use Rattle.conduction.specs.Wires.{
   unit,
   placeOf,
@@ -33,7 +34,8 @@ use Rattle.conduction.specs.Wires.{
   Fits,
   Turned,
 }
-use Rattle.conduction.proofs.Stamps.{meets-across, meets-back, meets-is, Across, length-stamped, stamped-entry}
+use Rattle.conduction.proofs.First.{first-most, rest-none-new, none-new-rest}
+use Rattle.conduction.proofs.Stamps.{meets, stamp, reached, meets-across, meets-back, meets-is, Across, stamps-entry, stamp-is-new}
 use Rattle.conduction.proofs.Sorting.{exchanged-all}
 use Rattle.conduction.proofs.Turns.{
   place-wire,
@@ -46,31 +48,44 @@ use Rattle.conduction.proofs.Turns.{
   turned-some,
 }
 
--- what a round does to the stamps, from their entries
+-- what a round does to the stamps, from their entries, where they were the first rounds so far
 rounded-by :
-    (m n : ℕ) (joined : ℕ → ℕ → Bool) (t dark end : ℕ) (stamps stamps′ : List ℕ) → m + n ≤ length stamps → length stamps′ ≡ length stamps → dark ≤ end
+    (m n : ℕ) (joined : ℕ → ℕ → Bool) (t dark end : ℕ) (stamps stamps′ : List ℕ) → stamps ≡ stampsAfter (length stamps) m n joined t
+    → length stamps′ ≡ length stamps
+    → dark ≤ end
     → ((v : ℕ) → getD stamps′ v 0 ≡ stamp (t + 2) (reached m n joined t stamps v) (getD stamps v 0))
     → (end ≡ dark → (v : ℕ) → getD stamps′ v 0 ≡ getD stamps v 0)
     → (dark < end → (v : ℕ) × (getD stamps v 0 ≡ 0) × (getD stamps′ v 0 ≡ t + 2))
     → Rounded m n joined t stamps stamps′ (ltb dark end)
-rounded-by m n joined t dark end stamps stamps′ room long order entries none some =
+rounded-by m n joined t dark end stamps stamps′ so-far long order entries none some =
+    let f : ℕ → ℕ = λ v. elim (isNew m n joined t v) [ true ↦ t + 2 | false ↦ getD stamps v 0 ] in
+    let was : (v : ℕ) → getD stamps v 0 ≡ firstRound m n joined t v =
+    λ v. ap (λ (s : List ℕ). getD s v 0) so-far ∙ stamps-entry m n joined (length stamps) t v in
+    let newly : (v : ℕ) → getD stamps′ v 0 ≡ f v = λ v. entries v ∙ stamp-is-new m n joined t stamps was v in
+    let old : (v : ℕ) → isNew m n joined t v ≡ false → getD stamps′ v 0 ≡ getD stamps v 0 = λ v e. newly v ∙ rw e in
+    let new : (v : ℕ) → isNew m n joined t v ≡ true → getD stamps′ v 0 ≡ t + 2 = λ v e. newly v ∙ rw e in
     record {
       stamps =
-          ext-getD 0 stamps′ (stamped m n joined t stamps) (long ∙ sym (length-stamped m n joined t stamps))
-          (λ v h. entries v ∙ sym (stamped-entry m n joined t stamps room v));
+          ext-getD 0 stamps′ (tab (length stamps) f) (long ∙ sym (length-tab (length stamps) f))
+          (λ v h. newly v ∙ sym (getD-tab (length stamps) f v 0 (omega arith)));
       adds =
           ⊎-elim
           (λ (h : dark < end).
           let at = some h in
           ⊎-elim
-          (λ (s : same stamps stamps′ ≡ true).
-          let eq = same-eq stamps stamps′ s in
-          absurd (omega (arith, at .1, at .2, ap (λ (x : List ℕ). getD x (at .0) 0) eq)))
-          (λ (s : same stamps stamps′ ≡ false). rw (lt-ltb dark end h, s))
-          (by-test (same stamps stamps′)))
+          (λ (r : atRest m n joined t ≡ true).
+          absurd (omega (arith, at .1, at .2, old (at .0) (rest-none-new m n joined t (at .0) r))))
+          (λ (r : atRest m n joined t ≡ false). rw (lt-ltb dark end h, r))
+          (by-test (atRest m n joined t)))
           (λ (h : end ≤ dark).
-          let eq : stamps′ ≡ stamps = ext-getD 0 stamps′ stamps long (λ v p. none (omega arith) v) in
-          rw (le-ltb dark end h, eq, eq-same stamps))
+          let rest =
+          none-new-rest m n joined t
+          (λ w below.
+          ⊎-elim
+          (λ (e : isNew m n joined t w ≡ true). absurd (omega (arith, none (omega arith) w, new w e, was w, first-most m n joined t w)))
+          (λ e. e)
+          (by-test (isNew m n joined t w))) in
+          rw (le-ltb dark end h, rest))
           (below-or-not dark end);
     }
 
@@ -137,6 +152,7 @@ module _
     (t head tail dark end : ℕ)
     (fits : Fits on cells rows columns stamps)
     (standing : Standing rows columns stamps t head tail dark)
+    (so-far : stamps ≡ stampsAfter (length stamps) (length rows) (length columns) (passing on cells (length columns)) t)
     (long-stamps : length stamps′ ≡ length stamps)
   where
     -- from rows to columns
@@ -154,7 +170,7 @@ module _
         let last : t + 2 ≡ t + 1 + 1 = omega arith in
         record {
           rounded =
-              rounded-by m n j t dark end stamps stamps′ (fits .wires-fit) long-stamps (sorted .from)
+              rounded-by m n j t dark end stamps stamps′ so-far long-stamps (sorted .from)
               (turned-entry m n j on cells 0 n m 1 rows columns columns′ stamps stamps′ t head tail dark end sides ready (standing .most) long sorted marked)
               (turned-none m n j on cells 0 n m 1 rows columns columns′ stamps stamps′ t head tail dark end sides ready (standing .most) long sorted marked)
               (turned-some m n j on cells 0 n m 1 rows columns columns′ stamps stamps′ t head tail dark end sides ready (standing .most) long sorted marked);
@@ -184,7 +200,7 @@ module _
         let last : t + 2 ≡ t + 1 + 1 = omega arith in
         record {
           rounded =
-              rounded-by m n j t dark end stamps stamps′ (fits .wires-fit) long-stamps (sorted .from)
+              rounded-by m n j t dark end stamps stamps′ so-far long-stamps (sorted .from)
               (turned-entry m n j on cells m 1 0 n columns rows rows′ stamps stamps′ t head tail dark end sides ready (standing .most) long sorted marked)
               (turned-none m n j on cells m 1 0 n columns rows rows′ stamps stamps′ t head tail dark end sides ready (standing .most) long sorted marked)
               (turned-some m n j on cells m 1 0 n columns rows rows′ stamps stamps′ t head tail dark end sides ready (standing .most) long sorted marked);

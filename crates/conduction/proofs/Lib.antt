@@ -2,10 +2,10 @@ pub mod Rounds
 pub mod Chains
 pub mod Settles
 pub mod Count
-pub mod Light
+pub mod First
 pub mod Stamps
+pub mod Light
 pub mod Counting
-pub mod Shown
 pub mod Promise
 pub mod Sorting
 pub mod Parts

@@ -1,27 +1,41 @@
 -- Light's answer: what a record, a setting and an answer have where light does not refuse, and that it refuses by 12, 13 and 14 only.
-use Prim.Native.Nat.{ℕ, _+_, _-_, _≤_, _<_}
-use mathlib.Core.Path.{_≡_, refl}
-use mathlib.Core.Logic.{⊎-elim}
+use Prim.Native.Nat.{ℕ, zero, suc, _+_, _-_, _≤_, _<_}
+use mathlib.Core.Path.{_≡_, refl, ap, _∙_}
+use mathlib.Core.Logic.{⊎-elim, _↔_}
 use mathlib.Core.Bool.{Bool, true, false, not}
 use mathlib.Core.List.{List, [], _∷_}
 use native.Mathlib.Omega.{arith}
+use lib.ListN.{getD}
 use lib.Dec.{leb, ltb}
 use borrow.Author.Tests.{leb-true, ltb-false, le-ltb, not-false}
 use Rattle.common.specs.Limits.{maxRows, maxColumns}
 use Rattle.common.specs.Outcome.{Outcome, done, Ground, _when_, lowest, mostNumber, unless}
-use Rattle.common.proofs.Lists.{by-test, true-or-false}
+use Rattle.common.proofs.Lists.{by-test, true-or-false, below-or-not}
 use Rattle.common.proofs.Outcome.{unless-done, not-met, others}
 use Rattle.common.proofs.Within.{EndsWithin, ends-done, unless-ends, within, mostLine}
 use Rattle.cells.specs.declared.Crossbar.{Crossbar}
 use Rattle.cells.specs.Record.{inRange, sound}
 use Rattle.cells.specs.Setting.{isSetting}
 use Rattle.cells.proofs.Sizes.{sound-facts}
-use Rattle.conduction.specs.Round.{rounds, roundCount, atRest}
-use Rattle.conduction.specs.Chain.{place}
+use Rattle.conduction.specs.Round.{lit, rounds, roundCount, atRest, firstRound, firstRounds}
+use Rattle.conduction.specs.Chain.{Wire, row, Chain, cellCount, LeastCells, place, Within}
 use Rattle.conduction.specs.Light.{Lit, joined, litBy, light}
-use Rattle.conduction.specs.Lit.{Answer, Lights}
-use Rattle.conduction.proofs.Rounds.{lit-one, one-lit, length-rounds, rounds-bits}
-use Rattle.conduction.proofs.Chains.{lit-chain, chain-lit}
+use Rattle.conduction.specs.Lit.{FirstLitIn, Answer, Lights}
+use Rattle.conduction.proofs.Rounds.{wire-at, rounds-after}
+use Rattle.conduction.proofs.Chains.{lit-short, lit-chain, chain-lights, chain-lit}
+use Rattle.conduction.proofs.First.{
+  lit-stays,
+  first-is,
+  first-none,
+  first-dark,
+  first-says,
+  first-most,
+  new-first,
+  some-new,
+  length-firsts,
+  firsts-entry,
+}
+use Rattle.conduction.proofs.Stamps.{start-first, start-one}
 use Rattle.conduction.proofs.Settles.{settles}
 use Rattle.conduction.proofs.Count.{count-settled, count-at-most, count-least}
 
@@ -35,24 +49,106 @@ sound-row x cells h =
     (by-test (leb 1 (x .rows)))
 
 -- the rounds from row 0, where there is one, answer so
+module _ (m n : ℕ) (j : ℕ → ℕ → Bool) (row-0 : 0 < m) (count : ℕ) (rest : atRest m n j count ≡ true) where
+  -- a wire that is lit at all is lit at rest
+  lit-at-rest : (t w : ℕ) → lit (rounds m n j t) w ≡ true → lit (rounds m n j count) w ≡ true
+  lit-at-rest t w e =
+      let later : t ≤ count + t = omega arith in
+      rw (rounds-after m n j count t rest) at (lit-stays m n j t (count + t) w later e)
+
+  first-by-rest : (w t : ℕ) → FirstLitIn m n j w t → t ≤ count
+  first-by-rest w t first =
+      ⊎-elim
+      (λ (h : count < t).
+      absurd (true-or-false (lit (rounds m n j count) w) (lit-at-rest t w (first .lit-then)) (first .dark-before count h)))
+      (λ (h : t ≤ count). h)
+      (below-or-not count t)
+
+  -- what the numbers at rest say
+  pub number-dark : (w : ℕ) → (firstRound m n j count w ≡ 0) ↔ (lit (rounds m n j count) w ≡ false)
+  number-dark w = (first-dark m n j count w, first-none m n j count w)
+
+  pub number-first : (w t : ℕ) → (firstRound m n j count w ≡ 1 + t) ↔ FirstLitIn m n j w t
+  number-first w t = (λ e. first-says m n j count w t e .1, λ first. first-is m n j count w t (first-by-rest w t first) first)
+
+  pub number-chain : (w : Wire) → Within m n w → (firstRound m n j count (place m w) ≡ 0 → ⊥) ↔ Chain m n j w
+  number-chain w k = (
+    λ some.
+        ⊎-elim
+        (λ (l : lit (rounds m n j count) (place m w) ≡ true). lit-chain m n j row-0 count w k l)
+        (λ (l : lit (rounds m n j count) (place m w) ≡ false). absurd (some (first-none m n j count (place m w) l)))
+        (by-test (lit (rounds m n j count) (place m w))),
+    λ chain z.
+        true-or-false (lit (rounds m n j count) (place m w)) (chain-lit m n j row-0 count rest w chain)
+        (first-dark m n j count (place m w) z),
+  )
+
+  first-least : (w : Wire) (t : ℕ) → Within m n w → FirstLitIn m n j (place m w) t → LeastCells m n j w t
+  first-least w t k first =
+      let fewest : (c : Chain m n j w) → t ≤ cellCount c =
+      λ c.
+      ⊎-elim
+      (λ (h : cellCount c < t).
+      absurd
+      (true-or-false (lit (rounds m n j (cellCount c)) (place m w)) (chain-lights m n j row-0 w c) (first .dark-before (cellCount c) h)))
+      (λ (h : t ≤ cellCount c). h)
+      (below-or-not (cellCount c) t) in
+      let short = lit-short m n j row-0 t w k (first .lit-then) in
+      record { chain = short .0; has = omega (arith, short .1, fewest (short .0)); fewest = fewest }
+
+  least-first : (w : Wire) (t : ℕ) → Within m n w → LeastCells m n j w t → FirstLitIn m n j (place m w) t
+  least-first w t k least =
+      record {
+        lit-then = rw (least .has) at (chain-lights m n j row-0 w (least .chain));
+        dark-before =
+            λ s h.
+            ⊎-elim
+            (λ (l : lit (rounds m n j s) (place m w) ≡ true).
+            let short = lit-short m n j row-0 s w k l in absurd (omega (arith, short .1, least .fewest (short .0))))
+            (λ l. l)
+            (by-test (lit (rounds m n j s) (place m w)));
+      }
+
+  pub number-cells : (w : Wire) (t : ℕ) → Within m n w → (firstRound m n j count (place m w) ≡ 1 + t) ↔ LeastCells m n j w t
+  number-cells w t k = (
+    λ e. first-least w t k (number-first (place m w) t .0 e),
+    λ least. number-first (place m w) t .1 (least-first w t k least),
+  )
+
+-- the largest number: in the last round that adds a wire one gets it, and where no round does it is row 0's
+pub largest-number :
+    (m n : ℕ) (j : ℕ → ℕ → Bool) → 0 < m → (count : ℕ) → ((t : ℕ) → t < count → atRest m n j t ≡ false)
+    → (w : Wire) × (Within m n w) × (firstRound m n j count (place m w) ≡ count + 1)
+unfolding place Within
+largest-number m n j row-0 zero moving = (row 0, row-0, start-one m n j row-0)
+largest-number m n j row-0 (suc t) moving =
+    let new = some-new m n j t (moving t (omega arith)) in
+    let at = wire-at m n (new .0) (new .1) in
+    let number = first-is m n j (suc t) (new .0) (suc t) (omega arith) (new-first m n j t (new .0) (new .2)) in
+    (at .0, at .1, rw (at .2) (omega (arith, number)))
+
 pub rounds-answer :
-    (m n : ℕ) (j : ℕ → ℕ → Bool) (a : Lit) → 0 < m → a .count ≡ roundCount m n j → a .wires ≡ rounds m n j (a .count)
+    (m n : ℕ) (j : ℕ → ℕ → Bool) (a : Lit) → 0 < m → a .count ≡ roundCount m n j → a .firsts ≡ firstRounds m n j (a .count)
     → Answer m n j a
-rounds-answer m n j a h counts sets =
-    let rest : atRest m n j (a .count) ≡ true = rw counts (count-settled m n j h) in
+rounds-answer m n j a h counts firsts =
+    let count = a .count in
+    let rest : atRest m n j count ≡ true = rw counts (count-settled m n j h) in
+    let least : (t : ℕ) → t < count → atRest m n j t ≡ false = rw counts (count-least m n j) in
+    let entry : (w : ℕ) → getD (a .firsts) w 0 ≡ firstRound m n j count w =
+    λ w. ap (λ (l : List ℕ). getD l w 0) firsts ∙ firsts-entry m n j count w in
+    let last = largest-number m n j h count least in
     record {
       rests = rest;
-      least = rw counts (count-least m n j);
+      least = least;
       at-most = rw counts (count-at-most m n j);
-      sets = sets;
-      size = rw sets (length-rounds m n j (a .count));
-      bits = rw sets (rounds-bits m n j (a .count));
-      chains =
-          rw sets
-          (λ w k. (
-            λ e. lit-chain m n j h (a .count) w k (one-lit (rounds m n j (a .count)) (place m w) e),
-            λ chain. lit-one (rounds m n j (a .count)) (place m w) (chain-lit m n j h (a .count) rest w chain),
-          ));
+      size = rw firsts (length-firsts m n j count);
+      dark = λ i. rw (entry i) (number-dark m n j h count rest i);
+      first = λ i t. rw (entry i) (number-first m n j h count rest i t);
+      row-0 = entry 0 ∙ first-is m n j count 0 0 (omega arith) (start-first m n j h);
+      chains = λ w k. rw (entry (place m w)) (number-chain m n j h count rest w k);
+      shortest = λ w t k. rw (entry (place m w)) (number-cells m n j h count rest w t k);
+      none-larger = λ i. rw (entry i) (first-most m n j count i);
+      largest = (last .0, last .1, entry (place m (last .0)) ∙ last .2);
     }
 
 -- what is done after light's checks meets none of the first three

@@ -1,22 +1,21 @@
--- Rounds by stamps: the wires with a stamp after t rounds are those lit after t rounds, and a round changes no stamp just where the
--- rounds are at rest. The reason is that a wire lit before round t has had its neighbours lit by then.
+-- Rounds by stamps: a wire is new in a round just where it was dark and a conducting cell joins it to a wire that the round before lit. The
+-- reason is that a wire lit earlier has had its neighbours lit by then.
 use Prim.Native.Nat.{ℕ, zero, suc, _+_, _-_, _≤_, _<_}
 use mathlib.Core.Path.{_≡_, refl, sym, ap, _∙_}
 use mathlib.Core.Logic.{_⊎_, inl, inr, ⊎-elim}
 use mathlib.Core.Bool.{Bool, true, false, _&&_, _||_}
 use mathlib.Core.List.{List}
 use native.Mathlib.Omega.{arith}
-use lib.ListN.{length, getD, set, length-set, length-replicate, getD-replicate, List·getD-eq-default}
+use lib.ListN.{length, getD, set, length-set, length-replicate, getD-replicate}
 use lib.Seq.{ext-getD, getD-set-same, getD-set-other}
 use lib.Dec.{eqb, leb, ltb}
 use borrow.Author.Tests.{ltb-true, leb-true, eqb-true, lt-ltb, le-ltb, le-leb, eq-eqb, ne-eqb}
-use Rattle.common.specs.Lists.{bit, zeros, some-below, same}
+use Rattle.common.specs.Lists.{zeros, padded, tab, some-below}
 use Rattle.common.proofs.Lists.{
   and-left,
   and-right,
   and-both,
   or-cases,
-  or-left,
   or-right,
   or-false,
   both-ways,
@@ -24,17 +23,48 @@ use Rattle.common.proofs.Lists.{
   true-or-false,
   below-or-not,
   equal-or-not,
+  not-zero,
   length-tab,
   getD-tab,
   some-below-at,
   some-below-is,
-  same-eq,
-  eq-same,
+  length-padded,
+  getD-padded-any,
 }
-use Rattle.conduction.specs.Round.{lit, start, round, rounds, atRest}
+use Rattle.conduction.specs.Round.{lit, round, rounds, atRest, isNew, firstRound, firstRounds}
 use Rattle.conduction.specs.Chain.{Wire, row, column, place, Within}
-use Rattle.conduction.specs.First.{meets, stamp, reached, stamped, startStamps, stampsAfter, withStamp}
-use Rattle.conduction.proofs.Rounds.{next, round-lit, wire-at, start-lit, length-rounds, rounds-bits, rest-same, same-rest}
+use Rattle.conduction.specs.First.{stampsAfter}
+use Rattle.conduction.specs.Lit.{FirstLitIn}
+use Rattle.conduction.proofs.Rounds.{next, round-lit, wire-at, start-lit}
+use Rattle.conduction.proofs.First.{
+  lit-below,
+  lit-stays,
+  first-none,
+  first-dark,
+  first-is,
+  first-says,
+  first-cases,
+  first-next,
+  new-lit,
+  is-new,
+  not-new,
+  length-firsts,
+  firsts-entry,
+  firsts-rest,
+}
+
+-- whether a conducting cell joins two wires, given by their places: a row and a column, or a column and a row
+unfoldable pub meets : ℕ → ℕ → (ℕ → ℕ → Bool) → ℕ → ℕ → Bool
+meets m n joined u v =
+    ltb u m && leb m v && ltb v (m + n) && joined u (v - m) || ltb v m && leb m u && ltb u (m + n) && joined v (u - m)
+
+-- a stamp after a wire is reached or not: "keeps every lit wire", and a dark wire that is reached gets a new stamp
+unfoldable pub stamp : ℕ → Bool → ℕ → ℕ
+stamp new reached old = elim (eqb old 0 && reached) [ true ↦ new | false ↦ old ]
+
+-- whether a wire is joined to one that was lit in round t and not before
+unfoldable pub reached : ℕ → ℕ → (ℕ → ℕ → Bool) → ℕ → List ℕ → ℕ → Bool
+reached m n joined t set v = some-below (m + n) (λ u. meets m n joined u v && eqb (getD set u 0) (t + 1))
 
 -- a stamp after a wire is reached or not
 pub stamp-kept : (new : ℕ) (b : Bool) (old : ℕ) → 0 < old → stamp new b old ≡ old
@@ -190,14 +220,7 @@ module _ (m n : ℕ) (joined : ℕ → ℕ → Bool) where
       let at = wire-at m n v h in
       rw (← (at .2)) (round-lit m n joined set (at .0) (at .1) ∙ next-touched set (at .0) (at .1))
 
-  -- the stamps after t rounds and the set after t rounds, side by side
-  pub record Stamped (t : ℕ) (stamps set : List ℕ) : Type 0 where
-    pub lits : (v : ℕ) → v < m + n → ltb 0 (getD stamps v 0) ≡ lit set v
-    pub most : (v : ℕ) → getD stamps v 0 ≤ t + 1
-    pub past : (v : ℕ) → 0 < getD stamps v 0 → v < m + n
-    pub before : (u v : ℕ) → 0 < getD stamps u 0 → getD stamps u 0 < t + 1 → meets m n joined u v ≡ true → 0 < getD stamps v 0
-
-  -- the entries after a round: also past the end, where no wire is reached
+  -- the wires that are reached
   pub reached-by : (t : ℕ) (stamps : List ℕ) (u v : ℕ) → meets m n joined u v ≡ true → getD stamps u 0 ≡ t + 1 → reached m n joined t stamps v ≡ true
   unfolding reached
   reached-by t stamps u v e s =
@@ -216,252 +239,132 @@ module _ (m n : ℕ) (joined : ℕ → ℕ → Bool) where
         eqb-true (getD stamps u 0) (t + 1) (and-right (meets m n joined u v) (eqb (getD stamps u 0) (t + 1)) (found .2)),
       )
 
-  pub length-stamped : (t : ℕ) (stamps : List ℕ) → length (stamped m n joined t stamps) ≡ length stamps
-  unfolding stamped
-  length-stamped t stamps = length-tab (length stamps) (λ v. stamp (t + 2) (reached m n joined t stamps v) (getD stamps v 0))
+  -- the stamps after t rounds, in k places: their number and their entries
+  pub length-stamps : (k t : ℕ) → m + n ≤ k → length (stampsAfter k m n joined t) ≡ k
+  unfolding stampsAfter
+  length-stamps k t room = length-padded k (firstRounds m n joined t) (rw (length-firsts m n joined t) room)
 
-  pub stamped-entry :
-      (t : ℕ) (stamps : List ℕ) → m + n ≤ length stamps
-      → (v : ℕ) → getD (stamped m n joined t stamps) v 0 ≡ stamp (t + 2) (reached m n joined t stamps v) (getD stamps v 0)
-  unfolding stamped
-  stamped-entry t stamps room v =
-      ⊎-elim
-      (λ (h : v < length stamps).
-      getD-tab (length stamps) (λ w. stamp (t + 2) (reached m n joined t stamps w) (getD stamps w 0)) v 0 h)
-      (λ (h : length stamps ≤ v).
-      let past : length (stamped m n joined t stamps) ≤ v = rw length-stamped h in
-      let dark : reached m n joined t stamps v ≡ false =
-      ⊎-elim
-      (λ (e : reached m n joined t stamps v ≡ true).
-      let found = reached-is t stamps v e in absurd (omega (arith, meets-below (found .0) v (found .1))))
-      (λ e. e)
-      (by-test (reached m n joined t stamps v)) in
-      List·getD-eq-default (stamped m n joined t stamps) 0 past
-      ∙ rw (dark, List·getD-eq-default stamps 0 h) (sym (stamp-out (t + 2) 0)))
-      (below-or-not v (length stamps))
+  pub stamps-entry : (k t v : ℕ) → getD (stampsAfter k m n joined t) v 0 ≡ firstRound m n joined t v
+  unfolding stampsAfter
+  stamps-entry k t v = getD-padded-any k (firstRounds m n joined t) v ∙ firsts-entry m n joined t v
 
-  -- one round of both
-  module _ (t : ℕ) (stamps set : List ℕ) (room : m + n ≤ length stamps) (told : Stamped t stamps set) where
-    after-kept : (v : ℕ) → 0 < getD stamps v 0 → getD (stamped m n joined t stamps) v 0 ≡ getD stamps v 0
-    after-kept v h =
-        stamped-entry t stamps room v ∙ stamp-kept (t + 2) (reached m n joined t stamps v) (getD stamps v 0) h
-
-    after-reached :
-        (u v : ℕ) → meets m n joined u v ≡ true → getD stamps u 0 ≡ t + 1 → 0 < getD (stamped m n joined t stamps) v 0
-    after-reached u v e s =
+  -- round t + 1, where the stamps are the first rounds up to round t
+  module _ (t : ℕ) (stamps : List ℕ) (so-far : (v : ℕ) → getD stamps v 0 ≡ firstRound m n joined t v) where
+    -- a dark wire is reached just where it is new: one that touches a wire lit before round t is lit by then
+    reached-new : (v : ℕ) → lit (rounds m n joined t) v ≡ false → reached m n joined t stamps v ≡ isNew m n joined t v
+    unfolding rounds
+    reached-new v dark =
+        both-ways (reached m n joined t stamps v) (isNew m n joined t v)
+        (λ e.
+        let found = reached-is t stamps v e in
+        let u = found .0 in
+        let number : firstRound m n joined t u ≡ 1 + t = omega (arith, found .2, so-far u) in
+        let touching = touched-by (rounds m n joined t) u v (found .1) (first-says m n joined t u t number .1 .lit-then) in
+        is-new m n joined t v
+        (round-touched (rounds m n joined t) v (meets-below u v (found .1) .1)
+        ∙ or-right (lit (rounds m n joined t) v) (touched (rounds m n joined t) v) touching)
+        dark)
+        (λ e.
+        let below = lit-below m n joined (suc t) v (new-lit m n joined t v e) in
         ⊎-elim
-        (λ (p : 0 < getD stamps v 0). omega (arith, after-kept v p))
-        (λ (p : getD stamps v 0 ≤ 0).
-        omega (
-          arith,
-          stamped-entry t stamps room v
-              ∙ stamp-new (t + 2) (reached m n joined t stamps v) (getD stamps v 0) (omega arith) (reached-by t stamps u v e s),
-        ))
+        (λ (l : lit (rounds m n joined t) v ≡ true). absurd (true-or-false (lit (rounds m n joined t) v) l dark))
+        (λ (l : touched (rounds m n joined t) v ≡ true).
+        let found = touched-is (rounds m n joined t) v l in
+        let u = found .0 in
+        ⊎-elim
+        (λ (c : (firstRound m n joined t u ≡ 0) × (lit (rounds m n joined t) u ≡ false)).
+        absurd (true-or-false (lit (rounds m n joined t) u) (found .2) (c .1)))
+        (λ (c : (s : ℕ) × (firstRound m n joined t u ≡ 1 + s) × (s ≤ t) × FirstLitIn m n joined u s).
+        let s = c .0 in
+        ⊎-elim
+        (λ (earlier : s < t).
+        let by-then : lit (rounds m n joined (suc s)) v ≡ true =
+        round-touched (rounds m n joined s) v below
+        ∙ or-right (lit (rounds m n joined s) v) (touched (rounds m n joined s) v)
+        (touched-by (rounds m n joined s) u v (found .1) (c .3 .lit-then)) in
+        absurd (true-or-false (lit (rounds m n joined t) v) (lit-stays m n joined (suc s) t v (omega arith) by-then) dark))
+        (λ (last : t ≤ s). reached-by t stamps u v (found .1) (omega (arith, so-far u, c .1, c .2)))
+        (below-or-not s t))
+        (first-cases m n joined t u))
+        (or-cases (lit (rounds m n joined t) v) (touched (rounds m n joined t) v)
+        (sym (round-touched (rounds m n joined t) v below) ∙ new-lit m n joined t v e)))
+
+    -- which wires are new, by the stamps
+    pub stamp-is-new :
+        (v : ℕ)
+        → stamp (t + 2) (reached m n joined t stamps v) (getD stamps v 0)
+        ≡ elim (isNew m n joined t v) [ true ↦ t + 2 | false ↦ getD stamps v 0 ]
+    stamp-is-new v =
+        ⊎-elim
+        (λ (some : 0 < getD stamps v 0).
+        let was-lit : lit (rounds m n joined t) v ≡ true =
+        ⊎-elim
+        (λ (l : lit (rounds m n joined t) v ≡ true). l)
+        (λ (l : lit (rounds m n joined t) v ≡ false). absurd (omega (arith, so-far v, first-none m n joined t v l)))
+        (by-test (lit (rounds m n joined t) v)) in
+        stamp-kept (t + 2) (reached m n joined t stamps v) (getD stamps v 0) some ∙ sym (rw (not-new m n joined t v was-lit)))
+        (λ (none : getD stamps v 0 ≤ 0).
+        let zero-stamp : getD stamps v 0 ≡ 0 = omega arith in
+        let is = reached-new v (first-dark m n joined t v (sym (so-far v) ∙ zero-stamp)) in
+        ⊎-elim
+        (λ (new : isNew m n joined t v ≡ true).
+        stamp-new (t + 2) (reached m n joined t stamps v) (getD stamps v 0) zero-stamp (is ∙ new) ∙ sym (rw new))
+        (λ (old : isNew m n joined t v ≡ false). rw (is, old) (stamp-out (t + 2) (getD stamps v 0)))
+        (by-test (isNew m n joined t v)))
         (below-or-not 0 (getD stamps v 0))
 
-    -- a wire joined to one that has a stamp has one after the round
-    after-touched :
-        (u v : ℕ) → meets m n joined u v ≡ true → 0 < getD stamps u 0 → 0 < getD (stamped m n joined t stamps) v 0
-    after-touched u v e s =
-        ⊎-elim
-        (λ (p : getD stamps u 0 < t + 1).
-        let old = told .before u v s p e in omega (arith, after-kept v old))
-        (λ (p : t + 1 ≤ getD stamps u 0). after-reached u v e (omega (arith, told .most u)))
-        (below-or-not (getD stamps u 0) (t + 1))
+  -- the stamps after a round that gave each new wire its own
+  pub stamps-next :
+      (k t : ℕ) → m + n ≤ k
+      → tab (length (stampsAfter k m n joined t)) (λ v. elim (isNew m n joined t v) [ true ↦ t + 2 | false ↦ getD (stampsAfter k m n joined t) v 0 ])
+      ≡ stampsAfter k m n joined (suc t)
+  stamps-next k t room =
+      let f : ℕ → ℕ = λ v. elim (isNew m n joined t v) [ true ↦ t + 2 | false ↦ getD (stampsAfter k m n joined t) v 0 ] in
+      let long = length-tab (length (stampsAfter k m n joined t)) f in
+      ext-getD 0 (tab (length (stampsAfter k m n joined t)) f) (stampsAfter k m n joined (suc t))
+      (long ∙ length-stamps k t room ∙ sym (length-stamps k (suc t) room))
+      (λ v h.
+      let below : v < length (stampsAfter k m n joined t) = omega (arith, long) in
+      getD-tab (length (stampsAfter k m n joined t)) f v 0 below
+      ∙ ap (λ (old : ℕ). elim (isNew m n joined t v) [ true ↦ t + 2 | false ↦ old ]) (stamps-entry k t v)
+      ∙ sym (stamps-entry k (suc t) v ∙ first-next m n joined t v))
 
-    -- how a wire comes to have a stamp after the round
-    after-cases :
-        (v : ℕ)
-        → (getD (stamped m n joined t stamps) v 0 ≡ getD stamps v 0)
-        ⊎ ((getD (stamped m n joined t stamps) v 0 ≡ t + 2) × (reached m n joined t stamps v ≡ true))
-    after-cases v =
-        ⊎-elim
-        (λ e. inl (stamped-entry t stamps room v ∙ e))
-        (λ e. inr (stamped-entry t stamps room v ∙ e .0, e .2))
-        (stamp-cases (t + 2) (reached m n joined t stamps v) (getD stamps v 0))
+  pub stamps-rest : (k t : ℕ) → atRest m n joined t ≡ true → stampsAfter k m n joined (suc t) ≡ stampsAfter k m n joined t
+  unfolding stampsAfter
+  stamps-rest k t h = ap (padded k) (firsts-rest m n joined t h)
 
-    told-lit : (v : ℕ) → 0 < getD stamps v 0 → lit set v ≡ true
-    told-lit v h = sym (told .lits v (told .past v h)) ∙ lt-ltb 0 (getD stamps v 0) h
+  -- the stamps before round 1: row 0 has 1, and every other place 0
+  module _ (row-0 : 0 < m) where
+    pub start-first : FirstLitIn m n joined 0 0
+    unfolding rounds
+    start-first = record { lit-then = start-lit m n 0 (omega arith); dark-before = λ s h. absurd (omega arith) }
 
-    lit-told : (v : ℕ) → v < m + n → lit set v ≡ true → 0 < getD stamps v 0
-    lit-told v h e = ltb-true 0 (getD stamps v 0) (told .lits v h ∙ e)
+    pub start-one : firstRound m n joined 0 0 ≡ 1
+    start-one = first-is m n joined 0 0 0 (omega arith) start-first
 
-    after-lits : (v : ℕ) → v < m + n → ltb 0 (getD (stamped m n joined t stamps) v 0) ≡ lit (round m n joined set) v
-    after-lits v h =
-        both-ways (ltb 0 (getD (stamped m n joined t stamps) v 0)) (lit (round m n joined set) v)
-        (λ e.
-        let some = ltb-true 0 (getD (stamped m n joined t stamps) v 0) e in
-        round-touched set v h
-        ∙ ⊎-elim
-        (λ (k : getD (stamped m n joined t stamps) v 0 ≡ getD stamps v 0).
-        or-left (lit set v) (touched set v) (told-lit v (omega arith)))
-        (λ (k : (getD (stamped m n joined t stamps) v 0 ≡ t + 2) × (reached m n joined t stamps v ≡ true)).
-        let found = reached-is t stamps v (k .1) in
-        or-right (lit set v) (touched set v)
-        (touched-by set (found .0) v (found .1) (told-lit (found .0) (omega (arith, found .2)))))
-        (after-cases v))
-        (λ e.
-        lt-ltb 0 (getD (stamped m n joined t stamps) v 0)
+    pub start-none : (v : ℕ) → 0 < v → firstRound m n joined 0 v ≡ 0
+    unfolding rounds
+    start-none v h =
+        first-none m n joined 0 v
         (⊎-elim
-        (λ (l : lit set v ≡ true). let old = lit-told v h l in omega (arith, after-kept v old))
-        (λ (l : touched set v ≡ true).
-        let found = touched-is set v l in
-        after-touched (found .0) v (found .1) (lit-told (found .0) (meets-below (found .0) v (found .1) .0) (found .2)))
-        (or-cases (lit set v) (touched set v) (sym (round-touched set v h) ∙ e))))
+        (λ (l : lit (rounds m n joined 0) v ≡ true).
+        let below = lit-below m n joined 0 v l in
+        absurd (omega (arith, eqb-true v 0 (sym (start-lit m n v below) ∙ l))))
+        (λ l. l)
+        (by-test (lit (rounds m n joined 0) v)))
 
-    pub stamped-more : Stamped (suc t) (stamped m n joined t stamps) (round m n joined set)
-    stamped-more =
-        record {
-          lits = after-lits;
-          most =
-              λ v.
-              ⊎-elim
-              (λ (k : getD (stamped m n joined t stamps) v 0 ≡ getD stamps v 0). omega (arith, told .most v))
-              (λ (k : (getD (stamped m n joined t stamps) v 0 ≡ t + 2) × (reached m n joined t stamps v ≡ true)).
-              omega (arith, k .0))
-              (after-cases v);
-          past =
-              λ v h.
-              ⊎-elim
-              (λ (k : getD (stamped m n joined t stamps) v 0 ≡ getD stamps v 0). told .past v (omega arith))
-              (λ (k : (getD (stamped m n joined t stamps) v 0 ≡ t + 2) × (reached m n joined t stamps v ≡ true)).
-              let found = reached-is t stamps v (k .1) in meets-below (found .0) v (found .1) .1)
-              (after-cases v);
-          before =
-              λ u v h l e.
-              ⊎-elim
-              (λ (k : getD (stamped m n joined t stamps) u 0 ≡ getD stamps u 0). after-touched u v e (omega arith))
-              (λ (k : (getD (stamped m n joined t stamps) u 0 ≡ t + 2) × (reached m n joined t stamps u ≡ true)).
-              absurd (omega (arith, k .0)))
-              (after-cases u);
-        }
-
-  -- the stamps after t rounds, in k places
-  module _ (k : ℕ) (row-0 : 0 < m) (room : m + n ≤ k) where
-    pub length-stamps : (t : ℕ) → length (stampsAfter k m n joined t) ≡ k
-    unfolding stampsAfter startStamps
-    length-stamps zero = length-tab k (λ v. bit (eqb v 0))
-    length-stamps (suc t) = length-stamped t (stampsAfter k m n joined t) ∙ length-stamps t
-
-    pub start-stamp : (v : ℕ) → (getD (startStamps k) v 0 ≡ 0) ⊎ ((getD (startStamps k) v 0 ≡ 1) × (v ≡ 0))
-    unfolding startStamps bit
-    start-stamp v =
-        ⊎-elim
-        (λ (h : v < k).
-        let entry = getD-tab k (λ w. bit (eqb w 0)) v 0 h in
-        ⊎-elim
-        (λ (z : v ≡ 0). inr (entry ∙ ap bit (eq-eqb v 0 z), z))
-        (λ (z : v ≡ 0 → ⊥). inl (entry ∙ ap bit (ne-eqb v 0 z)))
-        (equal-or-not v 0))
-        (λ (h : k ≤ v).
-        let past : length (startStamps k) ≤ v = rw (length-tab k (λ w. bit (eqb w 0))) h in
-        inl (List·getD-eq-default (startStamps k) 0 past))
-        (below-or-not v k)
-
-    pub start-one : getD (startStamps k) 0 0 ≡ 1
-    unfolding startStamps bit
-    start-one = getD-tab k (λ w. bit (eqb w 0)) 0 0 (omega arith)
-
-    stamped-start : Stamped 0 (startStamps k) (start m n)
-    stamped-start =
-        record {
-          lits =
-              λ v h.
-              ⊎-elim
-              (λ (z : v ≡ 0).
-              let one : getD (startStamps k) v 0 ≡ 1 = rw z start-one in
-              lt-ltb 0 (getD (startStamps k) v 0) (omega arith) ∙ sym (start-lit m n v h ∙ eq-eqb v 0 z))
-              (λ (z : v ≡ 0 → ⊥).
-              let none : getD (startStamps k) v 0 ≡ 0 =
-              ⊎-elim
-              (λ e. e)
-              (λ (e : (getD (startStamps k) v 0 ≡ 1) × (v ≡ 0)). absurd (z (e .1)))
-              (start-stamp v) in
-              le-ltb 0 (getD (startStamps k) v 0) (omega arith) ∙ sym (start-lit m n v h ∙ ne-eqb v 0 z))
-              (equal-or-not v 0);
-          most =
-              λ v.
-              ⊎-elim
-              (λ (e : getD (startStamps k) v 0 ≡ 0). omega arith)
-              (λ (e : (getD (startStamps k) v 0 ≡ 1) × (v ≡ 0)). omega (arith, e .0))
-              (start-stamp v);
-          past =
-              λ v h.
-              ⊎-elim
-              (λ (e : getD (startStamps k) v 0 ≡ 0). absurd (omega arith))
-              (λ (e : (getD (startStamps k) v 0 ≡ 1) × (v ≡ 0)). omega (arith, e .1))
-              (start-stamp v);
-          before = λ u v h l e. absurd (omega arith);
-        }
-
-    pub stamped-all : (t : ℕ) → Stamped t (stampsAfter k m n joined t) (rounds m n joined t)
-    unfolding stampsAfter rounds
-    stamped-all zero = stamped-start
-    stamped-all (suc t) =
-        stamped-more t (stampsAfter k m n joined t) (rounds m n joined t) (rw (length-stamps t) room) (stamped-all t)
-
-    -- a round that adds nothing: the stamps stay as they are just where the rounds are at rest
-    stamps-rest : (t : ℕ) → atRest m n joined t ≡ true → stampsAfter k m n joined t ≡ stampsAfter k m n joined (suc t)
-    unfolding stampsAfter
-    stamps-rest t h =
-        let stamps = stampsAfter k m n joined t in
-        let long : m + n ≤ length stamps = rw (length-stamps t) room in
-        ext-getD 0 stamps (stampsAfter k m n joined (suc t)) (length-stamps t ∙ sym (length-stamps (suc t)))
+    -- as they are written: zeros, and 1 for row 0
+    pub start-written : (k : ℕ) → m + n ≤ k → set (zeros k) 0 1 ≡ stampsAfter k m n joined 0
+    start-written k room =
+        let long = length-set (zeros k) 0 1 ∙ length-replicate {A = ℕ} k 0 in
+        ext-getD 0 (set (zeros k) 0 1) (stampsAfter k m n joined 0) (long ∙ sym (length-stamps k 0 room))
         (λ v p.
+        let below : v < k = omega arith in
+        let within : 0 < length (zeros k) = rw (length-replicate {A = ℕ} k 0) (omega arith) in
         ⊎-elim
-        (λ (same-stamp : getD (stampsAfter k m n joined (suc t)) v 0 ≡ getD stamps v 0). sym same-stamp)
-        (λ (e : (getD (stampsAfter k m n joined (suc t)) v 0 ≡ t + 2) × (reached m n joined t stamps v ≡ true)).
-        let some : 0 < getD (stampsAfter k m n joined (suc t)) v 0 = omega (arith, e .0) in
-        let below = stamped-all (suc t) .past v some in
-        let lit-after : lit (rounds m n joined (suc t)) v ≡ true =
-        sym (stamped-all (suc t) .lits v below) ∙ lt-ltb 0 (getD (stampsAfter k m n joined (suc t)) v 0) some in
-        let lit-before : lit (rounds m n joined t) v ≡ true = rw (← (rest-same m n joined t h)) lit-after in
-        let had : 0 < getD stamps v 0 = ltb-true 0 (getD stamps v 0) (stamped-all t .lits v below ∙ lit-before) in
-        sym (after-kept t stamps (rounds m n joined t) long (stamped-all t) v had))
-        (after-cases t stamps (rounds m n joined t) long (stamped-all t) v))
-
-    -- the wires with a stamp after t rounds are those lit after t rounds
-    pub stamps-lit : (t : ℕ) → withStamp (m + n) (stampsAfter k m n joined t) ≡ rounds m n joined t
-    unfolding withStamp lit bit
-    stamps-lit t =
-        let stamps = stampsAfter k m n joined t in
-        ext-getD 0 (withStamp (m + n) stamps) (rounds m n joined t)
-        (length-tab (m + n) (λ v. bit (ltb 0 (getD stamps v 0))) ∙ sym (length-rounds m n joined t))
-        (λ v h.
-        let below : v < m + n = rw length-tab at h in
-        getD-tab (m + n) (λ w. bit (ltb 0 (getD stamps w 0))) v 0 below
-        ∙ ap bit (stamped-all t .lits v below)
-        ∙ ⊎-elim
-        (λ (e : getD (rounds m n joined t) v 0 ≡ 0). rw e)
-        (λ (e : getD (rounds m n joined t) v 0 ≡ 1). rw e)
-        (rounds-bits m n joined t v))
-
-    rest-stamps : (t : ℕ) → stampsAfter k m n joined t ≡ stampsAfter k m n joined (suc t) → atRest m n joined t ≡ true
-    rest-stamps t e =
-        same-rest m n joined t
-        (sym (stamps-lit (suc t)) ∙ ap (withStamp (m + n)) (sym e) ∙ stamps-lit t)
-
-    -- a round changes no stamp just where the rounds are at rest
-    pub rest-by-stamps : (t : ℕ) → same (stampsAfter k m n joined t) (stampsAfter k m n joined (suc t)) ≡ atRest m n joined t
-    rest-by-stamps t =
-        both-ways (same (stampsAfter k m n joined t) (stampsAfter k m n joined (suc t))) (atRest m n joined t)
-        (λ e. rest-stamps t (same-eq (stampsAfter k m n joined t) (stampsAfter k m n joined (suc t)) e))
-        (λ e. rw (← (stamps-rest t e)) (eq-same (stampsAfter k m n joined t)))
-
--- the stamps before round 1 as they are written: zeros, and 1 for row 0
-pub start-written : (k : ℕ) → 0 < k → set (zeros k) 0 1 ≡ startStamps k
-unfolding startStamps bit
-start-written k h =
-    let long = length-set (zeros k) 0 1 ∙ length-replicate {A = ℕ} k 0 in
-    ext-getD 0 (set (zeros k) 0 1) (startStamps k) (long ∙ sym (length-tab k (λ v. bit (eqb v 0))))
-    (λ v p.
-    let below : v < k = omega arith in
-    let within : 0 < length (zeros k) = rw (length-replicate {A = ℕ} k 0) h in
-    ⊎-elim
-    (λ (z : v ≡ 0).
-    rw z (getD-set-same (zeros k) 0 1 0 within ∙ sym (getD-tab k (λ w. bit (eqb w 0)) 0 0 h)))
-    (λ (z : v ≡ 0 → ⊥).
-    getD-set-other (zeros k) 0 v 1 0 z
-    ∙ getD-replicate {A = ℕ} k v 0 0 below
-    ∙ sym (getD-tab k (λ w. bit (eqb w 0)) v 0 below ∙ ap bit (ne-eqb v 0 z)))
-    (equal-or-not v 0))
+        (λ (z : v ≡ 0). rw z (getD-set-same (zeros k) 0 1 0 within ∙ sym (stamps-entry k 0 0 ∙ start-one)))
+        (λ (z : v ≡ 0 → ⊥).
+        getD-set-other (zeros k) 0 v 1 0 z
+        ∙ getD-replicate {A = ℕ} k v 0 0 below
+        ∙ sym (stamps-entry k 0 v ∙ start-none v (not-zero v z)))
+        (equal-or-not v 0))

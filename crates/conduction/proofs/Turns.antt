@@ -10,9 +10,8 @@ use lib.ListN.{length, getD}
 use lib.Dec.{eqb, leb}
 use borrow.Author.Tests.{le-leb, leb-true, eqb-true, eq-eqb}
 use Rattle.common.proofs.Lists.{and-left, and-right, and-both, both-ways, by-test, true-or-false, below-or-not, some-below-at, some-below-is}
-use Rattle.conduction.specs.First.{meets, stamp, reached}
 use Rattle.conduction.specs.Wires.{unit, placeOf, addsOf, wireOf, passes, joinedTo, Sorted, among, NewlyStamped, Sided, Fronted, TurnReady}
-use Rattle.conduction.proofs.Stamps.{stamp-kept, stamp-new, stamp-out, stamp-cases, reached-by, reached-is}
+use Rattle.conduction.proofs.Stamps.{meets, stamp, reached, stamp-kept, stamp-new, stamp-out, stamp-cases, reached-by, reached-is}
 use Rattle.conduction.proofs.Sorting.{exchanged-all}
 
 -- the two parts of a wire's number

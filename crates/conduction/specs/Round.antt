@@ -1,7 +1,7 @@
 -- Document 01, "Conduction": the rounds. R and C, the numbers of rows and columns, are m and n here, and joined r c says whether the
 -- cell at row r and column c conducts. A set of lit wires is one byte a wire, rows then columns, 1 lit, 0 dark.
 use Prim.Native.Nat.{ℕ, zero, suc, _+_, _-_}
-use mathlib.Core.Bool.{Bool, true, false, _&&_, _||_}
+use mathlib.Core.Bool.{Bool, true, false, not, _&&_, _||_}
 use mathlib.Core.List.{List, _++_}
 use lib.ListN.{getD}
 use lib.Dec.{eqb}
@@ -38,3 +38,22 @@ firstRest m n joined (suc k) t = elim (atRest m n joined t) [ true ↦ t | false
 -- "the count of rounds is .. the least t with the sets after t and t + 1 rounds equal. It is at most R + C − 1."
 unfoldable pub roundCount : ℕ → ℕ → (ℕ → ℕ → Bool) → ℕ
 roundCount m n joined = firstRest m n joined (m + n - 1) 0
+
+-- Document 02, Req 01: "The single round must therefore promise which wires are new": whether round t + 1 adds a wire, which is lit after it
+-- and not before
+unfoldable pub isNew : ℕ → ℕ → (ℕ → ℕ → Bool) → ℕ → ℕ → Bool
+isNew m n joined t w = lit (rounds m n joined (suc t)) w && not (lit (rounds m n joined t) w)
+
+-- of the sets after t, t + 1, .. rounds, k of them, the first that has the wire: 1 plus its number of rounds, or 0 where none has it
+unfoldable pub firstLit : ℕ → ℕ → (ℕ → ℕ → Bool) → (w k t : ℕ) → ℕ
+firstLit m n joined w zero t = 0
+firstLit m n joined w (suc k) t = elim (lit (rounds m n joined t) w) [ true ↦ 1 + t | false ↦ firstLit m n joined w k (suc t) ]
+
+-- Req 01: "0 if dark, otherwise 1 plus the round in which it was first lit, so row 0 gives 1": a wire's number after t rounds, by the sets
+-- after 0, 1, .. t rounds
+unfoldable pub firstRound : ℕ → ℕ → (ℕ → ℕ → Bool) → (t w : ℕ) → ℕ
+firstRound m n joined t w = firstLit m n joined w (suc t) 0
+
+-- those of all wires, rows then columns
+unfoldable pub firstRounds : ℕ → ℕ → (ℕ → ℕ → Bool) → ℕ → List ℕ
+firstRounds m n joined t = tab (m + n) (firstRound m n joined t)

@@ -143,6 +143,7 @@ pub record Standing (rows columns stamps : List ℕ) (t head tail dark : ℕ) : 
 -- the lists are long enough, and not longer than the limits
 pub record Fits (on cells rows columns stamps : List ℕ) : Type 0 where
   pub table : CodeTable on
+  pub row-0 : 0 < length rows
   pub cells-fit : length rows * length columns ≤ length cells
   pub wires-fit : length rows + length columns ≤ length stamps
   pub rows-fit : length rows ≤ maxRows
@@ -163,7 +164,7 @@ unfoldable pub onCodes : List ℕ → List ℕ
 onCodes setting = padded codes (tab (2 + 2 * length setting) (λ k. bit (conducts setting (cellOf k))))
 
 -- what light has checked before the rounds: the sizes, the cells' codes, the setting, and the room for the wires
-pub record LampReady (cells setting : List ℕ) (m n : ℕ) (wires : List ℕ) : Type 0 where
+pub record LampReady (cells setting : List ℕ) (m n : ℕ) (firsts : List ℕ) : Type 0 where
   pub row-0 : 0 < m
   pub rows-fit : m ≤ maxRows
   pub columns-fit : n ≤ maxColumns
@@ -171,4 +172,4 @@ pub record LampReady (cells setting : List ℕ) (m n : ℕ) (wires : List ℕ) :
   pub codes-fit : codesLow (length setting) (take (m * n) cells) ≡ true
   pub switches-fit : length setting ≤ maxSwitches
   pub setting-fits : isSetting (length setting) setting ≡ true
-  pub wires-fit : m + n ≤ length wires
+  pub wires-fit : m + n ≤ length firsts

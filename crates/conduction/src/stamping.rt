@@ -7,7 +7,7 @@ use crate::spreading::spread;
 ghost use mathlib.Core.Path.{_≡_};
 ghost use Prim.Native.Nat.{_+_, _<_};
 ghost use lib.ListN.{length};
-ghost use Rattle.conduction.specs.First.{startStamps, Counted};
+ghost use Rattle.conduction.specs.First.{stampsAfter, Counted};
 ghost use Rattle.conduction.specs.Wires.{passing, Fits, Standing, Turned};
 
 // Round t + 1, from the wires that round t lit: rows where t is even, columns where it is odd. The answer is where the wires that it lit end.
@@ -21,6 +21,7 @@ fn round(
 ) -> usize
     requires { ⌜ Fits (now on) (now cells) (now rows) (now columns) (now stamps) × (front .round < length (now rows) + length (now columns)) ⌝ }
     requires { ⌜ Standing (now rows) (now columns) (now stamps) (front .round) (front .head) (front .tail) (front .dark) ⌝ }
+    requires { ⌜ now stamps ≡ stampsAfter (length (now stamps)) (length (now rows)) (length (now columns)) (passing (now on) (now cells) (length (now columns))) (front .round) ⌝ }
     ensures { λ r. ⌜ Turned (now (on .entry)) (now (cells .entry)) (now (rows .entry)) (now (columns .entry)) (now (stamps .entry)) (now (rows .exit)) (now (columns .exit)) (now (stamps .exit)) (front .round) (front .tail) (front .dark) r ⌝ }
 {
     let t = front.round;
@@ -44,7 +45,8 @@ pub fn rounds(
     columns: &mut [u32],
     stamps: &mut [u16],
 ) -> u16
-    requires { ⌜ Fits (now on) (now cells) (now rows) (now columns) (now stamps) × (0 < length (now rows)) × (now stamps ≡ startStamps (length (now stamps))) ⌝ }
+    requires { ⌜ Fits (now on) (now cells) (now rows) (now columns) (now stamps) ⌝ }
+    requires { ⌜ now stamps ≡ stampsAfter (length (now stamps)) (length (now rows)) (length (now columns)) (passing (now on) (now cells) (length (now columns))) 0 ⌝ }
     ensures { λ t. ⌜ Counted (length (now (rows .entry))) (length (now (columns .entry))) (passing (now (on .entry)) (now (cells .entry)) (length (now (columns .entry)))) (length (now (stamps .entry))) t (now (stamps .exit)) ⌝ }
 {
     let m = rows.len();

@@ -1,29 +1,32 @@
 -- The calls of the host library: the answer and every byte lent, from what the calls beneath hand over.
-use Prim.Native.Nat.{ℕ, _*_, _≤_}
-use mathlib.Core.Path.{_≡_, sym, ap}
+use Prim.Native.Nat.{ℕ, _-_, _*_, _/_, _≤_}
+use mathlib.Core.Path.{_≡_, refl, sym, ap, _∙_}
 use mathlib.Core.Bool.{true, false}
-use mathlib.Core.List.{List}
+use mathlib.Core.List.{List, []}
+use native.Mathlib.Omega.{arith}
 use lib.ListN.{length}
 use Rattle.common.specs.declared.Refusal.{Refusal}
-use Rattle.common.specs.Lists.{zeros}
-use Rattle.common.specs.Outcome.{Outcome, refusalOf, valueOf, bufferOf, Answered, mostNumber}
+use Rattle.common.specs.Lists.{zeros, padded}
+use Rattle.common.specs.Outcome.{Outcome, done, refused, refusalOf, valueOf, bufferOf, Answered, mostNumber}
 use Rattle.cells.specs.declared.Crossbar.{Crossbar}
 use Rattle.jobs.specs.declared.Walked.{Walked}
 use Rattle.jobs.specs.Answer.{walked}
 use Rattle.jobs.specs.Job.{walk}
 use Rattle.conduction.specs.declared.Lighted.{Lighted}
-use Rattle.conduction.specs.Light.{light, lighted}
+use Rattle.conduction.specs.Light.{Lit, light, lighted}
 use Rattle.listings.specs.declared.printing.Printed.{Printed}
 use Rattle.listings.specs.Listing.{print}
 use Rattle.listings.specs.Printing.{printed}
 use Rattle.common.proofs.Within.{EndsWithin, number-most}
 use Rattle.jobs.proofs.Refusals.{walk-ends}
-use Rattle.conduction.proofs.Light.{lit-ends}
+use Rattle.conduction.proofs.Light.{light-answers, lit-ends}
 use Rattle.listings.proofs.Refusals.{printed-ends}
-use Rattle.crossbar.specs.Bytes.{holdsRecord, recordFrom}
+use Rattle.crossbar.specs.Bytes.{holdsRecord, recordFrom, pairs}
 use Rattle.crossbar.specs.Host.{numberUnit, packed, packedFrom, ofRecord, hostLight, hostPrint, LightCall, PrintCall}
 use Rattle.crossbar.proofs.Records.{none-held, one-held}
 use Rattle.crossbar.proofs.Numbers.{packed-is}
+use Rattle.crossbar.proofs.Lent.{lentNumbers, lent-most, light-lent}
+use Rattle.crossbar.proofs.Pairs.{pairs-padded, no-numbers}
 
 -- the answer from what a call beneath hands over
 answered : {A : Type 0} {P : A → Type 0} {b : ℕ} (value : A → ℕ) (o : Outcome A) (refusal : Refusal) (v r : ℕ)
@@ -48,7 +51,7 @@ pub light-refused :
     → LightCall s cells setting before r after
 unfolding hostLight
 light-refused s cells setting before after r =
-    refused-12 (λ a. a .count) (λ a. a .wires) s (light (recordFrom s) cells setting (length before)) (length before) r after
+    refused-12 (λ a. a .count) (λ a. pairs (a .firsts)) s (light (recordFrom s) cells setting (length before / 2)) (length before) r after
 
 pub print-refused :
     (s cells before after : List ℕ) (r : ℕ)
@@ -60,28 +63,66 @@ unfolding hostPrint
 print-refused s cells before after r =
     refused-12 length (λ t. t) s (print (recordFrom s) cells (length before)) (length before) r after
 
-module _ (x : Crossbar) (cells setting before after : List ℕ) (lit : Lighted) (a : Answered (light x cells setting (length before)) lighted (λ a. a .wires) (length before) lit after) where
-  pub light-numbers : lit .refusal .number ≤ mostNumber
-  unfolding lighted
-  light-numbers =
-      let o = light x cells setting (length before) in
-      rw (a .answer) (number-most o (lit-ends x cells setting (length before)))
+-- the bytes of the numbers that light left
+padded-none : (m : ℕ) → zeros m ≡ padded m []
+unfolding padded
+padded-none m = let e : m ≡ m - 0 = omega arith in ap zeros e
 
-  pub light-answered :
-      (s : List ℕ) (r : ℕ)
-      → holdsRecord s ≡ true
-      → x ≡ recordFrom s
-      → r ≡ packedFrom (lit .refusal) (lit .rounds)
-      → LightCall s cells setting before r after
-  unfolding hostLight lighted
-  light-answered s r h e f =
-      let o = light x cells setting (length before) in
-      rw (one-held s (light (recordFrom s) cells setting (length before)) h, ← e)
-      (record {
-        answer = answered (λ a. a .count) o (lit .refusal) (lit .rounds) r (lit-ends x cells setting (length before))
-            (ap (λ (l : Lighted). l .refusal) (a .answer)) (ap (λ (l : Lighted). l .rounds) (a .answer)) f;
-        buffer = a .buffer;
-      })
+pairs-left :
+    (k n : ℕ) (o : Outcome Lit) → 2 * k ≤ n → ((a : Lit) → o ≡ done a → length (a .firsts) ≤ k)
+    → padded n (pairs (bufferOf k (λ a. a .firsts) o)) ≡ bufferOf n (λ a. pairs (a .firsts)) o
+unfolding bufferOf
+pairs-left k n (done a) h long = pairs-padded n k (a .firsts) (long a refl) h
+pairs-left k n (refused number line) h long =
+    ap (λ (l : List ℕ). padded n (pairs l)) (padded-none k) ∙ pairs-padded n k [] (omega arith) h ∙ sym (no-numbers n)
+
+pub light-bytes :
+    (x : Crossbar) (cells setting before after numbers : List ℕ) (k : ℕ) (lit : Lighted)
+    → k ≡ lentNumbers x (length before)
+    → Answered (light x cells setting k) lighted (λ a. a .firsts) k lit numbers
+    → after ≡ padded (length before) (pairs numbers)
+    → Answered (light x cells setting (length before / 2)) lighted (λ a. pairs (a .firsts)) (length before) lit after
+light-bytes x cells setting before after numbers k lit is a written =
+    let same : light x cells setting k ≡ light x cells setting (length before / 2) =
+    ap (light x cells setting) is ∙ light-lent x cells setting (length before) in
+    let long : (b : Lit) → light x cells setting k ≡ done b → length (b .firsts) ≤ k =
+    λ b e. let lights = light-answers x cells setting k b e in omega (arith, lights .wires-fit, lights .answer .size) in
+    rw (← same)
+    (record {
+      answer = a .answer;
+      buffer =
+          written
+          ∙ ap (λ (l : List ℕ). padded (length before) (pairs l)) (a .buffer)
+          ∙ pairs-left k (length before) (light x cells setting k) (rw is (lent-most x (length before))) long;
+    })
+
+module _
+    (x : Crossbar)
+    (cells setting before after : List ℕ)
+    (lit : Lighted)
+    (a : Answered (light x cells setting (length before / 2)) lighted (λ a. pairs (a .firsts)) (length before) lit after)
+  where
+    pub light-numbers : lit .refusal .number ≤ mostNumber
+    unfolding lighted
+    light-numbers =
+        let o = light x cells setting (length before / 2) in
+        rw (a .answer) (number-most o (lit-ends x cells setting (length before / 2)))
+
+    pub light-answered :
+        (s : List ℕ) (r : ℕ)
+        → holdsRecord s ≡ true
+        → x ≡ recordFrom s
+        → r ≡ packedFrom (lit .refusal) (lit .rounds)
+        → LightCall s cells setting before r after
+    unfolding hostLight lighted
+    light-answered s r h e f =
+        let o = light x cells setting (length before / 2) in
+        rw (one-held s (light (recordFrom s) cells setting (length before / 2)) h, ← e)
+        (record {
+          answer = answered (λ a. a .count) o (lit .refusal) (lit .rounds) r (lit-ends x cells setting (length before / 2))
+              (ap (λ (l : Lighted). l .refusal) (a .answer)) (ap (λ (l : Lighted). l .rounds) (a .answer)) f;
+          buffer = a .buffer;
+        })
 
 module _ (x : Crossbar) (cells : List ℕ) (room : ℕ) (p : Printed) (after : List ℕ) (a : Answered (print x cells room) printed (λ t. t) room p after) where
   pub print-numbers : p .refusal .number ≤ mostNumber

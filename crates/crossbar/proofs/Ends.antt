@@ -1,5 +1,5 @@
 -- How the calls of a host end: what is added to the calls beneath is the record's slice.
-use Prim.Native.Nat.{ℕ, _+_, _-_, _≤_}
+use Prim.Native.Nat.{ℕ, _/_, _+_, _-_, _≤_}
 use mathlib.Core.Path.{refl}
 use mathlib.Core.List.{List}
 use native.Mathlib.Omega.{arith}
@@ -39,7 +39,7 @@ pub light-ends :
     (s cells setting : List ℕ) (room : ℕ)
     → EndsWithin (λ (a : Lit). a .count ≤ maxRows + maxColumns - 1) mostLine (hostLight s cells setting room)
 unfolding hostLight
-light-ends s cells setting room = of-record-ends s _ (lit-ends _ cells setting room)
+light-ends s cells setting room = of-record-ends s _ (lit-ends _ cells setting (room / 2))
 
 pub print-ends : (s cells : List ℕ) (room : ℕ) → EndsWithin (λ t. length t ≤ maxText) mostLine (hostPrint s cells room)
 unfolding hostPrint

@@ -1,6 +1,7 @@
 pub mod Pairs
 pub mod Records
 pub mod Numbers
+pub mod Lent
 pub mod Calls
 pub mod Deliveries
 pub mod ReadBack

@@ -11,7 +11,7 @@ use lib.Seq.{ext-getD, take-suc, length-take-le}
 use borrow.Author.Tests.{ltb-true}
 use Rattle.common.specs.Limits.{maxOutputs}
 use Rattle.common.specs.Lists.{zeros, padded, tab, all-of}
-use Rattle.common.proofs.Lists.{length-tab, getD-tab, all-of-at}
+use Rattle.common.proofs.Lists.{length-tab, getD-tab, all-of-at, length-padded, getD-padded-any, getD-before-zeros}
 use Rattle.cells.specs.declared.Crossbar.{Crossbar}
 use Rattle.placement.proofs.Heads.{pad-more}
 use Rattle.crossbar.specs.Bytes.{recordLength, numbersOf, pairs, recordBytes, withNumber, withNumbers, numberAt, recordFrom}
@@ -129,3 +129,34 @@ record-again s small h = pairs-tab s (4 + maxOutputs) small h
 pub no-numbers : (m : ℕ) → zeros m ≡ padded m (pairs [])
 unfolding padded pairs
 no-numbers m = let e : m ≡ m - 0 = omega arith in ap zeros e
+
+-- numbers that are 0 past others
+pairs-zeros : (k : ℕ) → pairs (zeros k) ≡ zeros (2 * k)
+unfolding pairs
+pairs-zeros zero = refl
+pairs-zeros (suc k) =
+    let even : 2 * suc k ≡ suc (suc (2 * k)) = omega arith in
+    ap (λ (l : List ℕ). 0 ∷ 0 ∷ l) (pairs-zeros k) ∙ sym (ap zeros even)
+
+pairs-before-zeros : (ns : List ℕ) (k : ℕ) → pairs (ns ++ zeros k) ≡ pairs ns ++ zeros (2 * k)
+unfolding pairs
+pairs-before-zeros [] k = pairs-zeros k
+pairs-before-zeros (n ∷ ns) k = ap (λ (l : List ℕ). n % 256 ∷ n / 256 ∷ l) (pairs-before-zeros ns k)
+
+pub pairs-padded : (n k : ℕ) (ns : List ℕ) → length ns ≤ k → 2 * k ≤ n → padded n (pairs (padded k ns)) ≡ padded n (pairs ns)
+unfolding padded
+pairs-padded n k ns h l =
+    let long : length (pairs (padded k ns)) ≤ n = omega (arith, length-pairs (padded k ns), length-padded k ns h) in
+    let short : length (pairs ns) ≤ n = omega (arith, length-pairs ns) in
+    ext-getD 0 (padded n (pairs (padded k ns))) (padded n (pairs ns))
+    (length-padded n (pairs (padded k ns)) long ∙ sym (length-padded n (pairs ns) short))
+    (λ i below.
+    getD-padded-any n (pairs (padded k ns)) i
+    ∙ ap (λ (l : List ℕ). getD l i 0) (pairs-before-zeros ns (k - length ns))
+    ∙ getD-before-zeros (pairs ns) (2 * (k - length ns)) i
+    ∙ sym (getD-padded-any n (pairs ns) i))
+
+-- the numbers in a buffer are read back
+pub numbers-back : (n : ℕ) (ns : List ℕ) (i : ℕ) → numberAt (padded n (pairs ns)) i ≡ getD ns i 0
+unfolding numberAt
+numbers-back n ns i = rw (getD-padded-any n (pairs ns) (2 * i), getD-padded-any n (pairs ns) (2 * i + 1)) (number-in ns i)

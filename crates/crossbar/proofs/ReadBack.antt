@@ -1,5 +1,5 @@
 -- What map or load writes as a record is what light and print read, in a buffer of any length that holds it.
-use Prim.Native.Nat.{ℕ, _≤_}
+use Prim.Native.Nat.{ℕ, _/_, _≤_}
 use mathlib.Core.Path.{_≡_, refl, ap, _∙_}
 use mathlib.Core.List.{List}
 use lib.ListN.{length}
@@ -22,11 +22,11 @@ for-record-long n (done w) h = rw (le-ltb n recordLength h)
 for-record-long n (refused k l) h = refl
 
 module _ (x : Crossbar) (rows : length (x .outs) ≡ maxOutputs) (n : ℕ) (long : recordLength ≤ n) where
-  pub light-written : (cells setting : List ℕ) (room : ℕ) → hostLight (padded n (recordBytes x)) cells setting room ≡ light x cells setting room
+  pub light-written : (cells setting : List ℕ) (room : ℕ) → hostLight (padded n (recordBytes x)) cells setting room ≡ light x cells setting (room / 2)
   unfolding hostLight
   light-written cells setting room =
       one-held (padded n (recordBytes x)) _ (holds-written x rows n long)
-      ∙ ap (λ (y : Crossbar). light y cells setting room) (record-written x rows n)
+      ∙ ap (λ (y : Crossbar). light y cells setting (room / 2)) (record-written x rows n)
 
   pub print-written : (cells : List ℕ) (room : ℕ) → hostPrint (padded n (recordBytes x)) cells room ≡ print x cells room
   unfolding hostPrint

@@ -1,7 +1,7 @@
 -- The five calls of the host library. Document 01, "The services": "The same calls are offered to the buyer's host program, written in
 -- C, on numbers and byte slices." Each answers one number: the refusal's number times 2 to the 56th, plus the line; or, where nothing is
 -- refused, the call's value. Parts.antt says that these are read back from it.
-use Prim.Native.Nat.{ℕ, _+_, _*_, _^_}
+use Prim.Native.Nat.{ℕ, _+_, _*_, _/_, _^_}
 use mathlib.Core.Path.{_≡_}
 use mathlib.Core.Bool.{true, false, not, _&&_}
 use mathlib.Core.List.{List, [], _∷_}
@@ -17,7 +17,7 @@ use Rattle.placement.specs.Map.{mapJob}
 use Rattle.conduction.specs.Light.{Lit, light}
 use Rattle.listings.specs.Listing.{print}
 use Rattle.listings.specs.Loading.{load}
-use Rattle.crossbar.specs.Bytes.{recordLength, recordBytes, recordFrom, holdsRecord}
+use Rattle.crossbar.specs.Bytes.{recordLength, pairs, recordBytes, recordFrom, holdsRecord}
 
 -- what the number of a refusal counts for in an answer: the highest of its 8 bytes counts these
 abbrev pub numberUnit : ℕ
@@ -65,9 +65,9 @@ hostLoad text record-room cells-room = forRecord record-room (load text cells-ro
 unfoldable pub ofRecord : {A : Type 0} → List ℕ → Outcome A → Outcome A
 ofRecord s rest = unless (lowest ((12 when not (holdsRecord s)) ∷ [])) 0 rest
 
--- light: the record's bytes, cells, setting, and the length of the buffer
+-- light: the record's bytes, cells, setting, and the length of the buffer, which holds a number in every two bytes
 unfoldable pub hostLight : List ℕ → List ℕ → List ℕ → ℕ → Outcome Lit
-hostLight s cells setting room = ofRecord s (light (recordFrom s) cells setting room)
+hostLight s cells setting room = ofRecord s (light (recordFrom s) cells setting (room / 2))
 
 -- print: the record's bytes, cells, and the length of the buffer
 unfoldable pub hostPrint : List ℕ → List ℕ → ℕ → Outcome (List ℕ)
@@ -81,9 +81,10 @@ MapCall text head cells r head-after cells-after =
 abbrev pub WalkCall : (text setting : List ℕ) (output r : ℕ) → Type 0
 WalkCall text setting output r = r ≡ packed (λ v. v) (walk text setting output)
 
-abbrev pub LightCall : (head cells setting wires : List ℕ) (r : ℕ) (wires-after : List ℕ) → Type 0
-LightCall head cells setting wires r wires-after =
-    Answered (hostLight head cells setting (length wires)) (packed (λ a. a .count)) (λ a. a .wires) (length wires) r wires-after
+-- document 02, Req 01: "a 16-bit number (for the host two bytes, low first)"
+abbrev pub LightCall : (head cells setting firsts : List ℕ) (r : ℕ) (firsts-after : List ℕ) → Type 0
+LightCall head cells setting firsts r firsts-after =
+    Answered (hostLight head cells setting (length firsts)) (packed (λ a. a .count)) (λ a. pairs (a .firsts)) (length firsts) r firsts-after
 
 abbrev pub PrintCall : (head cells text : List ℕ) (r : ℕ) (text-after : List ℕ) → Type 0
 PrintCall head cells text r text-after =

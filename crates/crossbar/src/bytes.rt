@@ -1,11 +1,12 @@
-// The crossbar record as bytes: R, C, V, K and the 32 output rows, two bytes a number, low byte first.
+// Numbers as bytes, two bytes a number, low byte first: the crossbar record, which is R, C, V, K and the 32 output rows, and the first
+// rounds.
 use cells::Crossbar;
 use common::MAX_OUTPUTS;
 ghost use mathlib.Core.Path.{_≡_};
 ghost use Prim.Native.Nat.{_+_, _*_, _≤_, _<_};
 ghost use lib.ListN.{length};
 ghost use Rattle.common.specs.Lists.{padded};
-ghost use Rattle.crossbar.specs.Bytes.{recordLength, recordBytes, withNumber, withNumbers, numberAt, recordFrom, holdsRecord};
+ghost use Rattle.crossbar.specs.Bytes.{recordLength, pairs, recordBytes, withNumber, withNumbers, numberAt, recordFrom, holdsRecord, smaller};
 
 // How many bytes a record has.
 pub const RECORD_BYTES: usize = 2 * (4 + MAX_OUTPUTS);
@@ -81,4 +82,24 @@ pub fn write_record(out: &mut [u8], x: Crossbar)
     put_number(out, 3, x.outputs);
     let outs = x.outs;
     put_outs(out, outs);
+}
+
+// Numbers into a buffer, and zeros past them.
+pub fn write_numbers(out: &mut [u8], numbers: &[u16])
+    requires { ⌜ 2 * length (now numbers) ≤ length (now out) ⌝ }
+    ensures { λ r. ⌜ now (out .exit) ≡ padded (length (now (out .entry))) (pairs (now (numbers .entry))) ⌝ }
+{
+    common::clear(out);
+    let mut i = 0;
+    while i < numbers.len() {
+        put_number(out, i, numbers[i]);
+        i += 1;
+    }
+}
+
+// The smaller of two numbers.
+pub fn smaller(a: usize, b: usize) -> usize
+    ensures { λ r. ⌜ r ≡ smaller a b ⌝ }
+{
+    if a < b { a } else { b }
 }

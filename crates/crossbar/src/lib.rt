@@ -2,6 +2,15 @@
 pub mod answers; // answers.rt: one number for an outcome
 pub mod bytes; // bytes.rt: the crossbar record as bytes
 
+use cells::Crossbar;
+use common::MAX_COLUMNS;
+use common::MAX_ROWS;
+use conduction::Lighted;
+ghost use Prim.Native.Nat.{_/_};
+ghost use lib.ListN.{length};
+ghost use Rattle.common.specs.Outcome.{Answered};
+ghost use Rattle.conduction.specs.Light.{light, lighted};
+ghost use Rattle.crossbar.specs.Bytes.{pairs};
 ghost use Rattle.crossbar.specs.Host.{MapCall, WalkCall, LightCall, PrintCall, LoadCall};
 
 // Map: job text in; record and cells out.
@@ -26,16 +35,40 @@ pub extern "C" fn crossbar_walk(text: &[u8], setting: &[u8], output: u32) -> u64
     answers::pack(refusal, walked.value as u64)
 }
 
-// Light: record, cells and setting in; the lit wires and the count of rounds out.
-#[no_mangle]
-pub extern "C" fn crossbar_light(head: &[u8], cells: &[u8], setting: &[u8], wires: &mut [u8]) -> u64
+// Light into a buffer of bytes, two for each number. It is lent as many numbers as the buffer holds, and not more than the record has
+// wires.
+fn light_bytes(x: Crossbar, cells: &[u8], setting: &[u8], firsts: &mut [u8]) -> Lighted
     ensures { λ r.
-        ⌜ LightCall (now (head .entry)) (now (cells .entry)) (now (setting .entry)) (now (wires .entry)) r (now (wires .exit)) ⌝ }
+        ⌜ Answered (light x (now (cells .entry)) (now (setting .entry)) (length (now (firsts .entry)) / 2))
+        lighted
+        (λ a. pairs (a .firsts))
+        (length (now (firsts .entry)))
+        r
+        (now (firsts .exit)) ⌝ }
+{
+    let mut numbers = [0u16; MAX_ROWS + MAX_COLUMNS];
+    let wires = bytes::smaller(x.rows as usize + x.columns as usize, MAX_ROWS + MAX_COLUMNS);
+    let room = bytes::smaller(firsts.len() / 2, wires);
+    let lit = conduction::lighting::light(x, cells, setting, &mut numbers[..room]);
+    bytes::write_numbers(firsts, &numbers[0..room]);
+    lit
+}
+
+// Light: record, cells and setting in; the first round of every wire and the count of rounds out.
+#[no_mangle]
+pub extern "C" fn crossbar_light(
+    head: &[u8],
+    cells: &[u8],
+    setting: &[u8],
+    firsts: &mut [u8],
+) -> u64
+    ensures { λ r.
+        ⌜ LightCall (now (head .entry)) (now (cells .entry)) (now (setting .entry)) (now (firsts .entry)) r (now (firsts .exit)) ⌝ }
 {
     if !bytes::holds_record(head) {
-        return answers::refuse(wires, 12);
+        return answers::refuse(firsts, 12);
     }
-    let lit = conduction::lighting::light(bytes::read_record(head), cells, setting, wires);
+    let lit = light_bytes(bytes::read_record(head), cells, setting, firsts);
     let refusal = lit.refusal;
     answers::pack(refusal, lit.rounds as u64)
 }

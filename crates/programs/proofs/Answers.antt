@@ -58,7 +58,7 @@ answered-as :
     → Answered (print y d n) printed (λ (t : List ℕ). t) n r out
 answered-as x y c d n r out e f p = rw (e, f) at p
 
-lit-as : (n m : ℕ) (u v : List ℕ) → n ≡ m → u ≡ v → _≡_ {A = Lit} (record { count = n; wires = u }) (record { count = m; wires = v })
+lit-as : (n m : ℕ) (u v : List ℕ) → n ≡ m → u ≡ v → _≡_ {A = Lit} (record { count = n; firsts = u }) (record { count = m; firsts = v })
 lit-as n m u v e f = rw (e, f)
 
 -- map, into the program's buffer
@@ -94,7 +94,7 @@ module _
     (x : Crossbar)
     (codes setting after : List ℕ)
     (r : Lighted)
-    (a : Answered (light x codes setting (maxRows + maxColumns)) lighted (λ a. a .wires) (maxRows + maxColumns) r after)
+    (a : Answered (light x codes setting (maxRows + maxColumns)) lighted (λ a. a .firsts) (maxRows + maxColumns) r after)
   where
     abbrev lit : Outcome Lit
     lit = light x codes setting (maxRows + maxColumns)
@@ -117,17 +117,17 @@ module _
 
     pub lit-prints :
         r .refusal .number ≡ 0
-        → readings x (record { count = r .rounds; wires = after }) ≡ programText (lightAndRead setting (record { head = x; codes = codes }))
+        → readings x (record { count = r .rounds; firsts = after }) ≡ programText (lightAndRead setting (record { head = x; codes = codes }))
     unfolding lighted valueOf bufferOf
     lit-prints h =
         let d = found h in
         let e : lit ≡ done (d .0) = d .1 in
         let count : r .rounds ≡ d .0 .count = ap (λ (q : Lighted). q .rounds) (is-lighted ∙ ap lighted e) in
-        let wires : after ≡ padded (maxRows + maxColumns) (d .0 .wires) =
+        let firsts-are : after ≡ padded (maxRows + maxColumns) (d .0 .firsts) =
         a .buffer
-        ∙ ap (bufferOf (maxRows + maxColumns) (λ a. a .wires)) e
+        ∙ ap (bufferOf (maxRows + maxColumns) (λ a. a .firsts)) e
         in
-        light-prints x codes setting (d .0) (record { count = r .rounds; wires = after }) e (lit-as _ _ _ _ count wires)
+        light-prints x codes setting (d .0) (record { count = r .rounds; firsts = after }) e (lit-as _ _ _ _ count firsts-are)
 
 -- the set line
 module _ (s : List ℕ) (short : length s ≤ maxInput) (l : SetLine) (is : l ≡ setOf (setLine (linesOf s))) where

@@ -21,7 +21,7 @@ use Rattle.conduction.specs.Light.{Lit, light}
 use Rattle.listings.specs.Listing.{listing}
 use Rattle.listings.specs.Loading.{Listed, loadFrom, recordOf, cellsOf}
 use Rattle.listings.proofs.Lengths.{end-most, listing-most}
-use Rattle.programs.specs.Programs.{programText, inputFits, mapProgram, setLine, readsLines, readings, lightAndRead, lightProgram}
+use Rattle.programs.specs.Programs.{programText, inputFits, mapProgram, setLine, reading, readsLines, readings, lightAndRead, lightProgram}
 use Rattle.programs.specs.Texts.{wholeOrNone}
 use Rattle.programs.proofs.Printing.{map-maps, light-outputs}
 use Rattle.programs.proofs.Texts.{room-fits}
@@ -39,12 +39,12 @@ reads-most : (j v : ℕ) → length (line readsForm (j ∷ v ∷ [])) ≤ 20
 unfolding line written readsForm bytes
 reads-most j v = simp length-append (omega (arith, length-most j, length-most v))
 
-reads-lines-most : (wires : List ℕ) (j : ℕ) (rows : List ℕ) → length (readsLines wires j rows) ≤ 20 * length rows
+reads-lines-most : (firsts : List ℕ) (j : ℕ) (rows : List ℕ) → length (readsLines firsts j rows) ≤ 20 * length rows
 unfolding readsLines
-reads-lines-most wires j [] = omega arith
-reads-lines-most wires j (r ∷ rows) =
-    let first = reads-most j (getD wires r 0) in
-    let others = reads-lines-most wires (suc j) rows in
+reads-lines-most firsts j [] = omega arith
+reads-lines-most firsts j (r ∷ rows) =
+    let first = reads-most j (reading firsts r) in
+    let others = reads-lines-most firsts (suc j) rows in
     simp length-append (omega arith)
 
 -- the readings of a crossbar with at most 32 outputs
@@ -53,7 +53,7 @@ unfolding readings maxText maxRows maxColumns maxOutputs
 readings-most x a h =
     let few : length (take (x .outputs) (x .outs)) ≤ x .outputs = simp length-take (omega arith) in
     let head = rounds-most (a .count) in
-    let body = reads-lines-most (a .wires) 0 (take (x .outputs) (x .outs)) in
+    let body = reads-lines-most (a .firsts) 0 (take (x .outputs) (x .outs)) in
     simp length-append (omega (arith, end-most))
 
 -- a refusal, or a text that is done

@@ -2,15 +2,15 @@
 use Prim.Native.Nat.{ℕ, suc, _+_, _-_, _*_, _≤_, _<_}
 use mathlib.Core.Path.{_≡_, refl, sym, ap, _∙_}
 use mathlib.Core.Logic.{⊎-elim}
-use mathlib.Core.Bool.{true}
+use mathlib.Core.Bool.{true, false}
 use mathlib.Core.List.{List, [], _∷_, _++_}
 use native.Mathlib.Omega.{arith}
-use lib.ListN.{length, take, drop, length-append, length-replicate}
+use lib.ListN.{length, getD, take, drop, length-append, length-replicate}
 use borrow.Author.Tests.{lt-ltb, le-ltb}
 use Rattle.common.specs.Limits.{maxRows, maxColumns, maxSwitches, maxOutputs, maxInput}
 use Rattle.common.specs.Lists.{zeros, padded}
 use Rattle.common.specs.Outcome.{Outcome, done, refused, _then_, lowest, unless, numberOf, lineOf, Answered}
-use Rattle.common.proofs.Lists.{below-or-not, getD-before-zeros}
+use Rattle.common.proofs.Lists.{by-test, below-or-not, equal-or-not, getD-before-zeros}
 use Rattle.common.proofs.Outcome.{then-done, unless-done}
 use Rattle.common.proofs.Within.{EndsWithin, ends-done, ends-refused, zero-done}
 use Rattle.figures.specs.Line.{Lines, left, linesOf, lineEnd}
@@ -27,7 +27,10 @@ use Rattle.placement.specs.Map.{mapJob}
 use Rattle.placement.specs.Placement.{cells, crossbar}
 use Rattle.placement.proofs.Maps.{mapped-ends}
 use Rattle.placement.proofs.Sound.{mapped-sound, cells-count}
-use Rattle.conduction.specs.Light.{Lit, light}
+use Rattle.conduction.specs.Round.{lit, rounds}
+use Rattle.conduction.specs.Light.{Lit, joined, light}
+use Rattle.conduction.proofs.Rounds.{lit-one}
+use Rattle.conduction.proofs.First.{dark-byte}
 use Rattle.conduction.proofs.Light.{light-answers, lit-ends}
 use Rattle.listings.specs.declared.printing.Printed.{Printed}
 use Rattle.listings.specs.Listing.{listing, print}
@@ -36,9 +39,10 @@ use Rattle.listings.specs.Loading.{Listed, loadFrom, recordOf, cellsOf, loadAt}
 use Rattle.listings.proofs.Answers.{outputs-in}
 use Rattle.listings.proofs.Refusals.{FewCells, listing-ends}
 use Rattle.listings.proofs.RoundTrip.{print-zeros}
-use Rattle.programs.specs.Programs.{programText, inputFits, mapProgram, setLine, readsLines, readings, lightAndRead, lightProgram}
+use Rattle.programs.specs.Programs.{programText, inputFits, mapProgram, setLine, reading, readsLines, readings, ReadsTheSet, lightAndRead, lightProgram}
 use Rattle.programs.specs.Setting.{setOf}
 use Rattle.programs.specs.Texts.{inRoom, wholeOrNone, Said}
+use Rattle.programs.proofs.Texts.{reading-lit, reading-dark}
 use Rattle.programs.proofs.SetLine.{setFound, set-done, set-told, set-few}
 use Rattle.conduction.proofs.Slices.{light-same}
 use Rattle.figures.proofs.Line.{afterFirst}
@@ -128,39 +132,60 @@ said-mapped w room more r out m a =
 
 -- light
 
--- the byte of a wire, and what is printed of the wires, with zeros past them
-readsLines-zeros : (wires : List ℕ) (n j : ℕ) (rows : List ℕ) → readsLines (wires ++ zeros n) j rows ≡ readsLines wires j rows
-unfolding readsLines
-readsLines-zeros wires n j [] = refl
-readsLines-zeros wires n j (r ∷ rows) = rw (getD-before-zeros wires n r, readsLines-zeros wires n (suc j) rows)
+-- what an output reads, and what is printed of the first rounds, with zeros past them
+reading-zeros : (firsts : List ℕ) (n r : ℕ) → reading (firsts ++ zeros n) r ≡ reading firsts r
+unfolding reading
+reading-zeros firsts n r = rw (getD-before-zeros firsts n r)
 
--- zeros past the wires
+readsLines-zeros : (firsts : List ℕ) (n j : ℕ) (rows : List ℕ) → readsLines (firsts ++ zeros n) j rows ≡ readsLines firsts j rows
+unfolding readsLines
+readsLines-zeros firsts n j [] = refl
+readsLines-zeros firsts n j (r ∷ rows) = rw (reading-zeros firsts n r, readsLines-zeros firsts n (suc j) rows)
+
+-- zeros past the first rounds
 abbrev pub lit-padded : Lit → ℕ → Lit
-lit-padded a n = record { count = a .count; wires = padded n (a .wires) }
+lit-padded a n = record { count = a .count; firsts = padded n (a .firsts) }
 
 readings-padded : (x : Crossbar) (a : Lit) (n : ℕ) → readings x (lit-padded a n) ≡ readings x a
 unfolding readings padded
-readings-padded x a n = rw (readsLines-zeros (a .wires) (n - length (a .wires)) 0 (take (x .outputs) (x .outs)))
+readings-padded x a n = rw (readsLines-zeros (a .firsts) (n - length (a .firsts)) 0 (take (x .outputs) (x .outs)))
+
+-- what is printed of an output is its row's byte in the set after the rounds
+pub reads-the-set : ReadsTheSet
+reads-the-set x codes setting room a done-so r =
+    let answer = light-answers x codes setting room a done-so .answer in
+    let m = x .rows in
+    let n = x .columns in
+    let j = joined x codes setting in
+    ⊎-elim
+    (λ (z : getD (a .firsts) r 0 ≡ 0).
+    sym (reading-dark (a .firsts) r z) ∙ sym (dark-byte m n j (a .count) r (answer .dark r .0 z)))
+    (λ (some : getD (a .firsts) r 0 ≡ 0 → ⊥).
+    ⊎-elim
+    (λ (l : lit (rounds m n j (a .count)) r ≡ true). sym (reading-lit (a .firsts) r some) ∙ sym (lit-one (rounds m n j (a .count)) r l))
+    (λ (l : lit (rounds m n j (a .count)) r ≡ false). absurd (some (answer .dark r .1 l)))
+    (by-test (lit (rounds m n j (a .count)) r)))
+    (equal-or-not (getD (a .firsts) r 0) 0)
 
 module _ (x : Crossbar) (codes setting : List ℕ) where
-  abbrev lit : Outcome Lit
-  lit = light x codes setting (maxRows + maxColumns)
+  abbrev lamp : Outcome Lit
+  lamp = light x codes setting (maxRows + maxColumns)
 
   pub light-refused :
-      (numberOf lit ≡ 0 → ⊥)
-      → refusedLine (numberOf lit) (lineOf lit) ≡ programText (lightAndRead setting (record { head = x; codes = codes }))
+      (numberOf lamp ≡ 0 → ⊥)
+      → refusedLine (numberOf lamp) (lineOf lamp) ≡ programText (lightAndRead setting (record { head = x; codes = codes }))
   unfolding lightAndRead
-  light-refused h = refused-then lit _ h
+  light-refused h = refused-then lamp _ h
 
-  pub light-done : numberOf lit ≡ 0 → (a : Lit) × (lit ≡ done a)
-  light-done h = let found = zero-done lit (lit-ends x codes setting (maxRows + maxColumns)) h in (found .0, found .1)
+  pub light-done : numberOf lamp ≡ 0 → (a : Lit) × (lamp ≡ done a)
+  light-done h = let found = zero-done lamp (lit-ends x codes setting (maxRows + maxColumns)) h in (found .0, found .1)
 
-  pub light-outputs : (a : Lit) → lit ≡ done a → x .outputs ≤ maxOutputs
+  pub light-outputs : (a : Lit) → lamp ≡ done a → x .outputs ≤ maxOutputs
   light-outputs a h = outputs-in x codes (light-answers x codes setting (maxRows + maxColumns) a h .record-sound)
 
   pub light-prints :
       (a b : Lit)
-      → lit ≡ done a
+      → lamp ≡ done a
       → b ≡ lit-padded a (maxRows + maxColumns)
       → readings x b ≡ programText (lightAndRead setting (record { head = x; codes = codes }))
   unfolding lightAndRead programText _then_

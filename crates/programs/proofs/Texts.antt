@@ -7,8 +7,8 @@ use native.Mathlib.Omega.{arith}
 use native.Mathlib.Numerals.{add-one}
 use lib.ListN.{length, getD, take, length-append, length-replicate}
 use lib.Seq.{slice-empty, slice-cons, take-at}
-use borrow.Author.Tests.{le-ltb, lt-ltb}
-use Rattle.common.specs.Lists.{zeros, padded}
+use borrow.Author.Tests.{le-ltb, lt-ltb, ne-eqb}
+use Rattle.common.specs.Lists.{bit, zeros, padded}
 use Rattle.common.specs.Outcome.{Outcome, done, refused, lowest, unless, valueOf, bufferOf, Answered}
 use Rattle.common.proofs.Lists.{below-or-not, padded-full}
 use Rattle.figures.specs.Position.{splice}
@@ -18,7 +18,7 @@ use Rattle.forms.specs.Template.{line}
 use Rattle.forms.specs.Forms.{roundsForm, readsForm, endForm}
 use Rattle.forms.specs.Written.{Written}
 use Rattle.listings.proofs.Answers.{splice-zeros}
-use Rattle.programs.specs.Programs.{readsLines, readings}
+use Rattle.programs.specs.Programs.{reading, readsLines, readings}
 use Rattle.programs.specs.Texts.{inRoom, wholeOrNone, Said, readsText}
 
 pub room-fits : (room n : ℕ) (s : List ℕ) → n ≤ room → inRoom room n s ≡ done s
@@ -33,21 +33,30 @@ room-short room n s h = rw (lt-ltb room n h)
 pub said-as : (room n : ℕ) (out s t : List ℕ) → s ≡ t → Said room s n out → Said room t n out
 said-as room n out s t e h = rw (← e) h
 
+-- what an output reads, by the number of its row
+pub reading-lit : (firsts : List ℕ) (r : ℕ) → (getD firsts r 0 ≡ 0 → ⊥) → 1 ≡ reading firsts r
+unfolding reading bit
+reading-lit firsts r h = rw (ne-eqb (getD firsts r 0) 0 h)
+
+pub reading-dark : (firsts : List ℕ) (r : ℕ) → getD firsts r 0 ≡ 0 → 0 ≡ reading firsts r
+unfolding reading bit
+reading-dark firsts r h = rw h
+
 -- no outputs, and one more
-pub reads-text-none : (wires outs : List ℕ) (j k : ℕ) → j ≡ k → readsText wires outs j k ≡ []
+pub reads-text-none : (firsts outs : List ℕ) (j k : ℕ) → j ≡ k → readsText firsts outs j k ≡ []
 unfolding readsText readsLines
-reads-text-none wires outs j k h = rw (h, slice-empty k outs)
+reads-text-none firsts outs j k h = rw (h, slice-empty k outs)
 
 pub reads-text-more :
-    (wires outs : List ℕ) (j k : ℕ)
+    (firsts outs : List ℕ) (j k : ℕ)
     → j < k
     → k ≤ length outs
-    → readsText wires outs j k ≡ line readsForm (j ∷ getD wires (getD outs j 0) 0 ∷ []) ++ readsText wires outs (j + 1) k
+    → readsText firsts outs j k ≡ line readsForm (j ∷ reading firsts (getD outs j 0) ∷ []) ++ readsText firsts outs (j + 1) k
 unfolding readsText readsLines
-reads-text-more wires outs j k h l = rw (slice-cons j k outs 0 h l, add-one j)
+reads-text-more firsts outs j k h l = rw (slice-cons j k outs 0 h l, add-one j)
 
 -- the first line of the readings, the outputs' and the last one
-pub readings-parts : (x : Crossbar) (a : Lit) → readings x a ≡ (line roundsForm (a .count ∷ []) ++ readsText (a .wires) (x .outs) 0 (x .outputs)) ++ line endForm []
+pub readings-parts : (x : Crossbar) (a : Lit) → readings x a ≡ (line roundsForm (a .count ∷ []) ++ readsText (a .firsts) (x .outs) 0 (x .outputs)) ++ line endForm []
 unfolding readings readsText
 readings-parts x a = refl
 

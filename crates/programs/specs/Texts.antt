@@ -20,4 +20,4 @@ Said room s n out = Answered (wholeOrNone room s) (λ o. valueOf {B = ℕ} 0 len
 
 -- the lines `(reads J v)` from output j up to, not including, output k
 unfoldable pub readsText : List ℕ → List ℕ → ℕ → ℕ → List ℕ
-readsText wires outs j k = readsLines wires j (drop j (take k outs))
+readsText firsts outs j k = readsLines firsts j (drop j (take k outs))

@@ -50,13 +50,13 @@ fn light_and_read(x: Crossbar, cells: &[u8], setting: &[u8], out: &mut [u8]) -> 
         r
         (now (out .exit)) ⌝ }
 {
-    let mut wires = [0u8; MAX_ROWS + MAX_COLUMNS];
-    let lit = light(x, cells, setting, &mut wires);
+    let mut firsts = [0u16; MAX_ROWS + MAX_COLUMNS];
+    let lit = light(x, cells, setting, &mut firsts);
     let refusal = lit.refusal;
     if refusal.number != 0 {
         return refuse(out, refusal);
     }
-    print_readings(out, x, lit.rounds as u32, &wires)
+    print_readings(out, x, lit.rounds as u32, &firsts)
 }
 
 // "Two programs": "The second reads a line `(set 1 1)` .. and then a listing. .. Its lines count over the whole input": the listing starts

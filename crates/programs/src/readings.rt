@@ -9,13 +9,13 @@ use forms::write::write_rounds;
 ghost use mathlib.Core.Path.{_≡_};
 ghost use mathlib.Core.List.{_∷_, []};
 ghost use Prim.Native.Nat.{_≤_};
-ghost use lib.ListN.{length, getD};
+ghost use lib.ListN.{length};
 ghost use Rattle.common.specs.Limits.{maxOutputs};
 ghost use Rattle.common.specs.Outcome.{valueOf, Answered};
 ghost use Rattle.forms.specs.Template.{line};
 ghost use Rattle.forms.specs.Forms.{refusedForm};
 ghost use Rattle.forms.specs.Written.{Written};
-ghost use Rattle.programs.specs.Programs.{readings};
+ghost use Rattle.programs.specs.Programs.{reading, readings};
 ghost use Rattle.programs.specs.Texts.{inRoom, Said, readsText};
 
 // A buffer whose bytes up to `past` were written: `past`, or 0 and zeros in the whole buffer where they did not fit.
@@ -45,47 +45,58 @@ pub fn refuse(out: &mut [u8], refusal: Refusal) -> usize
     said(out, past)
 }
 
-// A wire's byte, 0 past the last wire.
-fn wire_at(wires: &[u8], w: usize) -> u8
-    ensures { λ r. ⌜ r ≡ getD (now (wires .entry)) w 0 ⌝ }
+// What an output on a row reads: 1 where the row's number is not 0, and 0 past the last wire.
+fn reading(firsts: &[u16], row: usize) -> u32
+    ensures { λ r. ⌜ r ≡ reading (now (firsts .entry)) row ⌝ }
 {
-    if w < wires.len() { wires[w] } else { 0 }
+    if row < firsts.len() {
+        if firsts[row] != 0 {
+            return 1;
+        }
+    }
+    0
 }
 
 // The lines `(reads J v)` of the first k outputs.
-fn write_reads(out: &mut [u8], at: usize, outs: [u16; MAX_OUTPUTS], k: usize, wires: &[u8]) -> usize
+fn write_reads(
+    out: &mut [u8],
+    at: usize,
+    outs: [u16; MAX_OUTPUTS],
+    k: usize,
+    firsts: &[u16],
+) -> usize
     requires { ⌜ k ≤ maxOutputs ⌝ }
-    ensures { λ n. ⌜ Written (now (out .entry)) (now (out .exit)) at (readsText (now (wires .entry)) outs 0 k) n ⌝ }
+    ensures { λ n. ⌜ Written (now (out .entry)) (now (out .exit)) at (readsText (now (firsts .entry)) outs 0 k) n ⌝ }
 {
     let mut next = at;
     let mut j = 0;
     while j < k {
-        let v = wire_at(wires, outs[j] as usize);
-        next = write_read(out, next, j as u32, v as u32);
+        let v = reading(firsts, outs[j] as usize);
+        next = write_read(out, next, j as u32, v);
         j += 1;
     }
     next
 }
 
 // `(rounds t)`, the outputs' lines and `(end)`, from the buffer's start on.
-fn write_readings(out: &mut [u8], x: Crossbar, rounds: u32, wires: &[u8]) -> usize
+fn write_readings(out: &mut [u8], x: Crossbar, rounds: u32, firsts: &[u16]) -> usize
     requires { ⌜ x .outputs ≤ maxOutputs ⌝ }
     ensures { λ n.
-        ⌜ Written (now (out .entry)) (now (out .exit)) 0 (readings x (record { count = rounds; wires = now (wires .entry) })) n ⌝ }
+        ⌜ Written (now (out .entry)) (now (out .exit)) 0 (readings x (record { count = rounds; firsts = now (firsts .entry) })) n ⌝ }
 {
     let head = write_rounds(out, 0, rounds);
     let outs = x.outs;
-    let body = write_reads(out, head, outs, x.outputs as usize, wires);
+    let body = write_reads(out, head, outs, x.outputs as usize, firsts);
     write_end(out, body)
 }
 
-// What the second program prints for a crossbar, its count of rounds and its wires.
-pub fn print_readings(out: &mut [u8], x: Crossbar, rounds: u32, wires: &[u8]) -> usize
+// What the second program prints for a crossbar, its count of rounds and its first rounds.
+pub fn print_readings(out: &mut [u8], x: Crossbar, rounds: u32, firsts: &[u16]) -> usize
     requires { ⌜ x .outputs ≤ maxOutputs ⌝ }
     ensures { λ r.
-        ⌜ Said (length (now (out .entry))) (readings x (record { count = rounds; wires = now (wires .entry) })) r (now (out .exit)) ⌝ }
+        ⌜ Said (length (now (out .entry))) (readings x (record { count = rounds; firsts = now (firsts .entry) })) r (now (out .exit)) ⌝ }
 {
     common::clear(out);
-    let past = write_readings(out, x, rounds, wires);
+    let past = write_readings(out, x, rounds, firsts);
     said(out, past)
 }

@@ -61,25 +61,25 @@ fn time(limit: Duration, calls: &mut [&mut dyn FnMut(); 3]) -> [f64; 3] {
 struct Slices {
     record: Vec<u8>,
     cells: Vec<u8>,
-    wires: Vec<u8>,
+    first_rounds: Vec<u8>,
     text: Vec<u8>,
 }
 
 impl Slices {
     fn new(call: &Call) -> Slices {
-        let (record, cells, wires, text) = match *call {
+        let (record, cells, first_rounds, text) = match *call {
             Call::Map { record, cells, .. } | Call::Load { record, cells, .. } => {
                 (record, cells, 0, 0)
             }
             Call::Walk { .. } => (0, 0, 0, 0),
-            Call::Light { wires, .. } => (0, 0, wires, 0),
+            Call::Light { first_rounds, .. } => (0, 0, first_rounds, 0),
             Call::Print { text, .. } => (0, 0, 0, text),
         };
         let slice = |length: usize| vec![0xa5; length];
         Slices {
             record: slice(record),
             cells: slice(cells),
-            wires: slice(wires),
+            first_rounds: slice(first_rounds),
             text: slice(text),
         }
     }
@@ -89,7 +89,7 @@ impl Slices {
         let outputs = match call {
             Call::Map { .. } | Call::Load { .. } => vec![self.record, self.cells],
             Call::Walk { .. } => vec![],
-            Call::Light { .. } => vec![self.wires],
+            Call::Light { .. } => vec![self.first_rounds],
             Call::Print { .. } => vec![self.text],
         };
         Answer { word, outputs }
@@ -111,7 +111,7 @@ fn library(call: &Call, to: &mut Slices) -> u64 {
             cells,
             setting,
             ..
-        } => direct::light(record, cells, setting, &mut to.wires),
+        } => direct::light(record, cells, setting, &mut to.first_rounds),
         Call::Print { record, cells, .. } => direct::print(record, cells, &mut to.text),
     }
 }
@@ -131,7 +131,7 @@ fn plain_program(call: &Call, to: &mut Slices) -> u64 {
             cells,
             setting,
             ..
-        } => plain::light(record, cells, setting, &mut to.wires),
+        } => plain::light(record, cells, setting, &mut to.first_rounds),
         Call::Print { record, cells, .. } => plain::print(record, cells, &mut to.text),
     }
 }
@@ -157,10 +157,12 @@ fn second(call: &Call) {
             record,
             cells,
             setting,
-            wires,
+            first_rounds,
         } => {
             if let Some(record) = host::record_of(record) {
-                let _ = black_box(reference::light(&record, cells, setting, wires));
+                // The second implementation counts numbers, of two bytes each.
+                let room = first_rounds / 2;
+                let _ = black_box(reference::light(&record, cells, setting, room));
             }
         }
         Call::Print {
@@ -253,7 +255,7 @@ impl Bench {
             record: &record_bytes(head),
             cells,
             setting: &vec![0; usize::from(head.switches)],
-            wires: usize::from(head.rows + head.columns),
+            first_rounds: 2 * usize::from(head.rows + head.columns),
         };
         self.line(&format!("light, {name}"), call);
     }

@@ -34,8 +34,8 @@ extern "C" {
         cells_length: usize,
         setting: *const u8,
         setting_length: usize,
-        wires: *mut u8,
-        wires_length: usize,
+        first_rounds: *mut u8,
+        first_rounds_length: usize,
     ) -> u64;
     fn crossbar_print(
         record: *const u8,
@@ -57,6 +57,10 @@ extern "C" {
 
 /// The header's CROSSBAR_MAX_LISTING: always enough for a listing.
 pub const MAX_LISTING: usize = 393_728;
+
+/// The header's CROSSBAR_MAX_FIRST_ROUNDS: always enough for what light gives,
+/// two bytes for each of 128 rows and 128 columns.
+pub const MAX_FIRST_ROUNDS: usize = 512;
 
 /// The calls themselves, on slices that the caller owns. For measuring time;
 /// the tests go through a `Lender`.
@@ -92,7 +96,7 @@ pub mod direct {
     }
 
     /// Value: the count of rounds.
-    pub fn light(record: &[u8], cells: &[u8], setting: &[u8], wires: &mut [u8]) -> u64 {
+    pub fn light(record: &[u8], cells: &[u8], setting: &[u8], first_rounds: &mut [u8]) -> u64 {
         // Safety: as for map.
         unsafe {
             super::crossbar_light(
@@ -102,8 +106,8 @@ pub mod direct {
                 cells.len(),
                 setting.as_ptr(),
                 setting.len(),
-                wires.as_mut_ptr(),
-                wires.len(),
+                first_rounds.as_mut_ptr(),
+                first_rounds.len(),
             )
         }
     }
@@ -195,10 +199,10 @@ impl Lender {
                 record,
                 cells,
                 setting,
-                wires,
+                first_rounds,
             } => {
                 inputs = [record, cells, setting];
-                two_lengths = [wires, 0];
+                two_lengths = [first_rounds, 0];
                 lengths = &two_lengths[..1];
             }
             Call::Print {

@@ -88,7 +88,7 @@ impl Run {
         self.cases += 1;
         match self.lender.call(call) {
             Ok(had) if had == *due => {}
-            Ok(had) => self.fault(show::call(call) + &show::difference(due, &had)),
+            Ok(had) => self.fault(show::call(call) + &show::difference(call, due, &had)),
             Err(touched) => self.fault(format!("{}  {touched}\n", show::call(call))),
         }
     }
@@ -117,12 +117,18 @@ impl Run {
         })
     }
 
-    pub fn light(&mut self, record: &[u8], cells: &[u8], setting: &[u8], wires: usize) -> Answer {
+    pub fn light(
+        &mut self,
+        record: &[u8],
+        cells: &[u8],
+        setting: &[u8],
+        first_rounds: usize,
+    ) -> Answer {
         self.check(&Call::Light {
             record,
             cells,
             setting,
-            wires,
+            first_rounds,
         })
     }
 
@@ -145,12 +151,18 @@ impl Run {
     /// An answer that is known apart from both implementations: the number,
     /// and what each output slice starts with before its zeros.
     pub fn known(&mut self, answer: &Answer, word: u64, outputs: &[&[u8]]) {
-        let same = answer.word == word
-            && answer.outputs.len() == outputs.len()
-            && answer.outputs.iter().zip(outputs).all(|(had, due)| {
-                had.starts_with(due) && had[due.len()..].iter().all(|&byte| byte == 0)
-            });
-        self.demand(same, || format!("known answer {word}, had {answer:?}\n"));
+        self.demand(is(answer, word, outputs), || {
+            format!("known answer {word}, had {answer:?}\n")
+        });
+    }
+
+    /// The same for light: the count of rounds and the number of each wire.
+    pub fn known_light(&mut self, answer: &Answer, rounds: u64, first_rounds: &[u16]) {
+        let bytes = host::number_bytes(first_rounds);
+        self.demand(is(answer, rounds, &[&bytes]), || {
+            let had = show::light(answer);
+            format!("known: value {rounds}, {first_rounds:?}; had: {had}\n")
+        });
     }
 
     /// A refusal that is known apart from both implementations.
@@ -159,4 +171,15 @@ impl Run {
         let none: &[u8] = &[];
         self.known(answer, word, &vec![none; answer.outputs.len()]);
     }
+}
+
+/// Has the answer this number, and does each output slice hold these bytes and
+/// then zeros?
+fn is(answer: &Answer, word: u64, outputs: &[&[u8]]) -> bool {
+    let mut pairs = answer.outputs.iter().zip(outputs);
+    answer.word == word
+        && answer.outputs.len() == outputs.len()
+        && pairs.all(|(had, due)| {
+            had.starts_with(due) && had[due.len()..].iter().all(|&byte| byte == 0)
+        })
 }

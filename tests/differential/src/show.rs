@@ -2,6 +2,7 @@
 
 use reference::host::{self, Answer, Call};
 use reference::random::{light_input, listing};
+use std::fmt::Display;
 use std::sync::atomic::{AtomicU32, Ordering};
 
 /// Bytes as an argument of the shell's printf.
@@ -41,26 +42,50 @@ pub fn pasted(bytes: &[u8], program: &str) -> String {
     }
 }
 
-/// Small slices byte by byte, long ones with runs drawn together.
+/// Numbers one by one, with runs drawn together.
+fn runs<T: PartialEq + Display>(numbers: &[T]) -> String {
+    let parts: Vec<String> = numbers
+        .chunk_by(|one, next| one == next)
+        .map(|run| match run {
+            [one] => format!("{one}"),
+            _ => format!("{} x{}", run[0], run.len()),
+        })
+        .collect();
+    parts.join(", ")
+}
+
+/// Small slices byte by byte, those that are too long as a file.
 fn numbers(bytes: &[u8]) -> String {
-    let mut parts = Vec::new();
-    let mut at = 0;
-    while at < bytes.len() {
-        let run = bytes[at..]
-            .iter()
-            .take_while(|&&byte| byte == bytes[at])
-            .count();
-        parts.push(match run {
-            1 => format!("{}", bytes[at]),
-            _ => format!("{} x{run}", bytes[at]),
-        });
-        at += run;
-    }
-    let text = parts.join(", ");
+    let text = runs(bytes);
     if text.len() > 4000 {
         return format!("the bytes of {}", kept(bytes));
     }
     text
+}
+
+/// The byte of a slice of first rounds that is no part of a number.
+fn odd_byte(bytes: &[u8]) -> Option<u8> {
+    let [byte] = bytes.chunks_exact(2).remainder() else {
+        return None;
+    };
+    Some(*byte)
+}
+
+/// A slice of first rounds, as numbers.
+fn first_rounds(bytes: &[u8]) -> String {
+    let text = runs(&host::numbers_of(bytes));
+    if text.len() > 4000 {
+        return format!("the bytes of {}", kept(bytes));
+    }
+    match odd_byte(bytes) {
+        Some(byte) => format!("[{text}] and a byte {byte}"),
+        None => format!("[{text}]"),
+    }
+}
+
+/// What light answers, with its numbers.
+pub fn light(answer: &Answer) -> String {
+    format!("{}, {}", word(answer), first_rounds(answer.output(0)))
 }
 
 /// The call with its slices.
@@ -98,9 +123,9 @@ pub fn call(call: &Call) -> String {
             record,
             cells,
             setting,
-            wires,
+            first_rounds,
         } => format!(
-            "crossbar_light, setting [{}], wires of {wires}\n{}",
+            "crossbar_light, setting [{}], first rounds of {first_rounds} bytes\n{}",
             numbers(setting),
             crossbar(record, cells, setting)
         ),
@@ -142,22 +167,42 @@ fn word(answer: &Answer) -> String {
     }
 }
 
-/// Where two answers differ.
-pub fn difference(due: &Answer, had: &Answer) -> String {
+/// Where two answers to a call differ.
+pub fn difference(call: &Call, due: &Answer, had: &Answer) -> String {
+    if let Call::Light { .. } = call {
+        return light_difference(due, had);
+    }
     let mut text = format!("  due: {}; had: {}\n", word(due), word(had));
     for (index, (due, had)) in due.outputs.iter().zip(&had.outputs).enumerate() {
-        let wrong: Vec<usize> = (0..due.len().min(had.len()))
-            .filter(|&at| due[at] != had[at])
-            .collect();
-        if let Some(&at) = wrong.first() {
-            text += &format!(
-                "  output {index}: {} of {} bytes differ, first at {at}: due {}, had {}\n",
-                wrong.len(),
-                due.len(),
-                due[at],
-                had[at]
-            );
-        }
+        text += &output_difference(index, "bytes", due, had);
     }
+    text
+}
+
+/// Where two output slices differ.
+fn output_difference<T>(index: usize, units: &str, due: &[T], had: &[T]) -> String
+where
+    T: PartialEq + Display,
+{
+    let wrong: Vec<usize> = (0..due.len().min(had.len()))
+        .filter(|&at| due[at] != had[at])
+        .collect();
+    let Some(&at) = wrong.first() else {
+        return String::new();
+    };
+    format!(
+        "  output {index}: {} of {} {units} differ, first at {at}: due {}, had {}\n",
+        wrong.len(),
+        due.len(),
+        due[at],
+        had[at]
+    )
+}
+
+/// Where two answers of light differ: in numbers, not in their bytes.
+fn light_difference(due: &Answer, had: &Answer) -> String {
+    let mut text = format!("  due: {}\n  had: {}\n", light(due), light(had));
+    let (due, had) = (due.output(0), had.output(0));
+    text += &output_difference(0, "numbers", &host::numbers_of(due), &host::numbers_of(had));
     text
 }

@@ -14,19 +14,33 @@ fn conducting(setting: &[u8]) -> [u8; 256] {
     on
 }
 
-/// Record, cells and setting in; one byte a wire out. Value: the count of
-/// rounds.
-pub fn light(record: &[u8], cells: &[u8], setting: &[u8], wires: &mut [u8]) -> u64 {
-    wires.fill(0);
-    lit(record, cells, setting, wires).unwrap_or_else(|refusal| refusal)
+/// A wire's first round as the answer has it, low byte first: 0 if the wire is
+/// dark, otherwise 1 plus the round in which it was first lit.
+type FirstRound = [u8; 2];
+
+const DARK: FirstRound = [0; 2];
+
+/// Record, cells and setting in; a first round for each wire out. Value: the
+/// count of rounds.
+pub fn light(record: &[u8], cells: &[u8], setting: &[u8], first_rounds: &mut [u8]) -> u64 {
+    // Zeros are both what a refusal leaves and dark wires, where the rounds
+    // begin.
+    first_rounds.fill(0);
+    lit(record, cells, setting, first_rounds).unwrap_or_else(|refusal| refusal)
 }
 
-fn lit(record: &[u8], cells: &[u8], setting: &[u8], wires: &mut [u8]) -> Result<u64, Refused> {
+fn lit(
+    record: &[u8],
+    cells: &[u8],
+    setting: &[u8],
+    first_rounds: &mut [u8],
+) -> Result<u64, Refused> {
     let crossbar = check(record, cells)?;
     if !setting_is_right(setting, crossbar.sizes.switches) {
         return Err(refused(13, 0));
     }
     let count = crossbar.sizes.rows + crossbar.sizes.columns;
+    let (wires, _) = first_rounds.as_chunks_mut();
     let Some(wires) = wires.get_mut(..count) else {
         return Err(refused(14, 0));
     };
@@ -38,6 +52,8 @@ fn lit(record: &[u8], cells: &[u8], setting: &[u8], wires: &mut [u8]) -> Result<
 struct Queue {
     wires: [u8; 2 * MOST_WIRES as usize],
     length: usize,
+    /// What a wire that is lit now gets.
+    now: FirstRound,
 }
 
 impl Queue {
@@ -48,25 +64,35 @@ impl Queue {
     }
 }
 
-/// The next eight wires are lit.
+/// The next eight wires are lit. All eight are looked at, so that they are
+/// compared at once.
 #[inline(always)]
-fn all_lit(wires: &[u8]) -> bool {
-    wires.first_chunk() == Some(&[1; 8])
+fn all_lit(wires: &[FirstRound]) -> bool {
+    wires
+        .first_chunk::<8>()
+        .is_some_and(|wires| wires.iter().fold(true, |all, &wire| all & (wire != DARK)))
 }
 
 /// Rounds until all wires are lit or one adds nothing. Rows are lit in even
 /// rounds and columns in odd ones, so a round goes over wires of one kind.
 /// Each round lights a wire at least, so ground 15 is never met.
-fn rounds(crossbar: &Crossbar, on: &[u8; 256], rows: &mut [u8], columns: &mut [u8]) -> u64 {
+fn rounds(
+    crossbar: &Crossbar,
+    on: &[u8; 256],
+    rows: &mut [FirstRound],
+    columns: &mut [FirstRound],
+) -> u64 {
     let mut queue = Queue {
         wires: [0; 2 * MOST_WIRES as usize],
         length: 1,
+        now: 1u16.to_le_bytes(),
     };
-    rows[0] = 1;
+    rows[0] = queue.now;
     let count = rows.len() + columns.len();
-    let (mut next, mut rounds) = (0, 0);
+    let (mut next, mut rounds) = (0, 0u16);
     while queue.length < count {
         let end = queue.length;
+        queue.now = (rounds + 2).to_le_bytes();
         while next < end {
             let wire = usize::from(queue.wires[next]);
             if rounds % 2 == 0 {
@@ -83,13 +109,13 @@ fn rounds(crossbar: &Crossbar, on: &[u8; 256], rows: &mut [u8], columns: &mut [u
         }
         rounds += 1;
     }
-    rounds
+    u64::from(rounds)
 }
 
 /// Lights the columns that a cell of a row joins to it. Eight cells are passed
 /// at once where all are off or all their columns lit.
 #[inline(always)]
-fn from_row(codes: &[u8], on: &[u8; 256], columns: &mut [u8], queue: &mut Queue) {
+fn from_row(codes: &[u8], on: &[u8; 256], columns: &mut [FirstRound], queue: &mut Queue) {
     let (blocks, rest) = codes.as_chunks::<8>();
     for (block, codes) in blocks.iter().enumerate() {
         let first = 8 * block;
@@ -112,7 +138,7 @@ fn from_column(
     cells: &[u8],
     column: usize,
     on: &[u8; 256],
-    (rows, width): (&mut [u8], usize),
+    (rows, width): (&mut [FirstRound], usize),
     queue: &mut Queue,
 ) {
     let blocks = rows.len() / 8;
@@ -136,9 +162,9 @@ fn from_column(
 }
 
 #[inline(always)]
-fn join(code: u8, wire: usize, on: &[u8; 256], lit: &mut [u8], queue: &mut Queue) {
-    if on[usize::from(code)] != 0 && lit[wire] == 0 {
-        lit[wire] = 1;
+fn join(code: u8, wire: usize, on: &[u8; 256], lit: &mut [FirstRound], queue: &mut Queue) {
+    if on[usize::from(code)] != 0 && lit[wire] == DARK {
+        lit[wire] = queue.now;
         queue.push(wire);
     }
 }

@@ -16,7 +16,7 @@ fn made(call: &Call) -> Answer {
             slices(&[record, cells])
         }
         Call::Walk { .. } => slices(&[]),
-        Call::Light { wires, .. } => slices(&[wires]),
+        Call::Light { first_rounds, .. } => slices(&[first_rounds]),
         Call::Print { text, .. } => slices(&[text]),
     };
     let word = match (call, outputs.as_mut_slice()) {
@@ -37,8 +37,8 @@ fn made(call: &Call) -> Answer {
                 setting,
                 ..
             },
-            [wires],
-        ) => plain::light(record, cells, setting, wires),
+            [first_rounds],
+        ) => plain::light(record, cells, setting, first_rounds),
         (Call::Print { record, cells, .. }, [text]) => plain::print(record, cells, text),
         _ => unreachable!(),
     };
@@ -114,12 +114,13 @@ fn light_and_print(rng: &mut Rng, record: &Record, cells: &[u8], met: &mut [usiz
         bytes.push(rng.below(3) as u8);
     }
     let bytes = &bytes;
-    let wires = usize::from(record.rows) + usize::from(record.columns);
+    // Two bytes for each wire.
+    let due = 2 * (usize::from(record.rows) + usize::from(record.columns));
     met[same(Call::Light {
         record: bytes,
         cells,
         setting: &any_setting(rng, record.switches),
-        wires: near(rng, wires),
+        first_rounds: near(rng, due),
     })] += 1;
     let due = reference::print(record, cells, usize::MAX).map_or(50, |text| text.len());
     met[same(Call::Print {

@@ -1,6 +1,6 @@
 //! The five calls of include/crossbar.h: numbers and byte slices in, one
-//! number and whole buffers out. The header says how document 01's answers
-//! stand in them.
+//! number and whole buffers out. The header says how the answers of document
+//! 01 and of Req 01 stand in them.
 
 use crate::{Record, Refusal};
 
@@ -24,7 +24,7 @@ pub enum Call<'a> {
         record: &'a [u8],
         cells: &'a [u8],
         setting: &'a [u8],
-        wires: usize,
+        first_rounds: usize,
     },
     Print {
         record: &'a [u8],
@@ -69,13 +69,30 @@ pub fn refusal_word(refusal: Refusal) -> u64 {
     u64::from(refusal.number) << 56 | u64::from(refusal.line)
 }
 
-/// The header on a record: R, C, V, K and 32 output rows, low byte first.
-pub fn record_bytes(record: &Record) -> Vec<u8> {
-    let head = [record.rows, record.columns, record.switches, record.outputs];
-    head.iter()
-        .chain(&record.outs)
+/// Numbers of two bytes each, low byte first: so the header has a record, and
+/// Req 01 the host's first rounds.
+pub fn number_bytes(numbers: &[u16]) -> Vec<u8> {
+    numbers
+        .iter()
         .flat_map(|number| number.to_le_bytes())
         .collect()
+}
+
+/// The way back. A last odd byte is no number.
+pub fn numbers_of(bytes: &[u8]) -> Vec<u16> {
+    bytes
+        .chunks_exact(2)
+        .map(|pair| match *pair {
+            [low, high] => u16::from_le_bytes([low, high]),
+            _ => 0,
+        })
+        .collect()
+}
+
+/// The header on a record: R, C, V, K and 32 output rows.
+pub fn record_bytes(record: &Record) -> Vec<u8> {
+    let head = [record.rows, record.columns, record.switches, record.outputs];
+    [number_bytes(&head), number_bytes(&record.outs)].concat()
 }
 
 /// The way back. Nothing when the slice is shorter than a record or has a byte
@@ -85,14 +102,7 @@ pub fn record_of(bytes: &[u8]) -> Option<Record> {
     if past.iter().any(|&byte| byte != 0) {
         return None;
     }
-    let numbers: Vec<u16> = record
-        .chunks_exact(2)
-        .map(|pair| match *pair {
-            [low, high] => u16::from_le_bytes([low, high]),
-            _ => 0,
-        })
-        .collect();
-    match *numbers.as_slice() {
+    match *numbers_of(record).as_slice() {
         [rows, columns, switches, outputs, ref rest @ ..] => Some(Record {
             rows,
             columns,
@@ -172,17 +182,19 @@ pub fn answer(call: &Call) -> Answer {
             record,
             cells,
             setting,
-            wires,
+            first_rounds,
         } => {
+            // Two bytes a number; a last odd byte has room for none.
+            let room = first_rounds / 2;
             let lit = match record_of(record) {
                 None => Err(without_line(12)),
-                Some(record) => crate::light(&record, cells, setting, wires),
+                Some(record) => crate::light(&record, cells, setting, room),
             };
             match lit {
-                Err(refusal) => refused(refusal, &[wires]),
-                Ok((rounds, lit)) => Answer {
+                Err(refusal) => refused(refusal, &[first_rounds]),
+                Ok((rounds, numbers)) => Answer {
                     word: u64::from(rounds),
-                    outputs: vec![filled(lit, wires)],
+                    outputs: vec![filled(number_bytes(&numbers), first_rounds)],
                 },
             }
         }

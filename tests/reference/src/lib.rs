@@ -1,13 +1,15 @@
 //! A second implementation of the crossbar mapper and its lamp test, written
-//! from document 01 and a list of readings of it, without the definitions of
-//! the first one. It is meant to be compared with the first one, so
-//! it is literal and plain: every function follows one paragraph of the
-//! document, which its comment names, and nothing is done for speed.
+//! from document 01, Req 01 of document 02 and a list of readings of both,
+//! without the definitions of the first one. It is meant to be compared with
+//! the first one, so it is literal and plain: every function follows one
+//! paragraph of document 01 or the request, which its comment names, and
+//! nothing is done for speed.
 //!
 //! A refusal is an `Err`. An output buffer is represented by its length, the
-//! argument `room`; an answer holds exactly the bytes due, and in a buffer
-//! that is longer the bytes past the answer are 0 ("Listing", last sentence).
-//! No function here panics, whatever bytes and numbers it is given.
+//! argument `room`; an answer holds exactly the bytes due, for light the
+//! numbers due, and in a buffer that is longer those past the answer are 0
+//! ("Listing", last sentence). No function here panics, whatever bytes and
+//! numbers it is given.
 
 #![forbid(unsafe_code)]
 
@@ -698,15 +700,65 @@ fn one_round(lit: &[u8], rows: usize, columns: usize, cells: &[u8], setting: &[u
     after
 }
 
-/// "The services", light, and "Conduction"; grounds 12, 13, 14 and 15 in that
-/// order. The answer is the count of rounds and one byte a wire, rows then
-/// columns, exactly R + C bytes.
+/// "Conduction": the sets of lit wires after 0, 1, .. and t rounds, where t is
+/// the count of rounds; and ground 15.
+fn lit_sets(
+    rows: usize,
+    columns: usize,
+    cells: &[u8],
+    setting: &[u8],
+) -> Result<Vec<Vec<u8>>, Refusal> {
+    // Before round 1 only row 0 is lit.
+    let mut lit = vec![0; rows + columns];
+    if let Some(first) = lit.first_mut() {
+        *first = 1;
+    }
+    let mut sets = Vec::new();
+    loop {
+        let after = one_round(&lit, rows, columns, cells, setting);
+        let at_rest = after == lit;
+        sets.push(lit);
+        // The least t with the sets after t and t + 1 rounds equal.
+        if at_rest {
+            return Ok(sets);
+        }
+        // Ground 15: a further round adds a wire after R + C - 1 rounds. The
+        // sets after 0 to t rounds are t + 1.
+        if sets.len() >= rows + columns {
+            return Err(Refusal {
+                number: 15,
+                line: 0,
+            });
+        }
+        lit = after;
+    }
+}
+
+/// Req 01: 0 if the wire is dark, otherwise 1 plus the round in which it was
+/// first lit, that is the least t with the wire in the set after t rounds.
+fn first_round(sets: &[Vec<u8>], wire: usize) -> u16 {
+    match sets.iter().position(|lit| lit.get(wire) == Some(&1)) {
+        Some(round) => 1 + round as u16,
+        None => 0,
+    }
+}
+
+/// Req 01, last sentence: an output reads 1 exactly when the number of its row
+/// is not 0.
+pub fn reading(first_rounds: &[u16], row: u16) -> u8 {
+    let number = first_rounds.get(usize::from(row)).copied().unwrap_or(0);
+    u8::from(number != 0)
+}
+
+/// "The services", light, "Conduction", and Req 01; grounds 12, 13, 14 and 15
+/// in that order. The answer is the count of rounds and one number a wire, rows
+/// then columns, exactly R + C numbers; `room` counts numbers too.
 pub fn light(
     record: &Record,
     cells: &[u8],
     setting: &[u8],
     room: usize,
-) -> Result<(u32, Vec<u8>), Refusal> {
+) -> Result<(u32, Vec<u16>), Refusal> {
     let cells = check_record(record, cells)?;
     if !setting_is_right(setting, record.switches) {
         return Err(Refusal {
@@ -722,29 +774,12 @@ pub fn light(
             line: 0,
         });
     }
-
-    // Before round 1 only row 0 is lit.
-    let mut lit = vec![0; rows + columns];
-    if let Some(first) = lit.first_mut() {
-        *first = 1;
-    }
-    let mut rounds = 0;
-    loop {
-        let after = one_round(&lit, rows, columns, cells, setting);
-        // The least t with the sets after t and t + 1 rounds equal.
-        if after == lit {
-            return Ok((rounds, lit));
-        }
-        // Ground 15: a further round adds a wire after R + C - 1 rounds.
-        if rounds as usize + 1 >= rows + columns {
-            return Err(Refusal {
-                number: 15,
-                line: 0,
-            });
-        }
-        lit = after;
-        rounds += 1;
-    }
+    let sets = lit_sets(rows, columns, cells, setting)?;
+    let rounds = sets.len().saturating_sub(1) as u32;
+    let first_rounds = (0..rows + columns)
+        .map(|wire| first_round(&sets, wire))
+        .collect();
+    Ok((rounds, first_rounds))
 }
 
 // ---------------------------------------------------------------------------
@@ -928,13 +963,13 @@ fn light_answer(input: &[u8]) -> Result<Vec<u8>, Refusal> {
     let line = lines.next()?;
     let setting = match_set(line).ok_or(lines.refuse(1))?;
     let (record, cells) = read_listing(&mut lines)?;
-    let (rounds, lit) = light(&record, &cells, &setting, usize::MAX)?;
+    let (rounds, first_rounds) = light(&record, &cells, &setting, usize::MAX)?;
 
     let mut answer = format!("(rounds {rounds})\n");
     for (index, &row) in record.outs.iter().enumerate() {
         if index < usize::from(record.outputs) {
-            let reading = lit.get(usize::from(row)).copied().unwrap_or(0);
-            answer += &format!("(reads {index} {reading})\n");
+            let value = reading(&first_rounds, row);
+            answer += &format!("(reads {index} {value})\n");
         }
     }
     answer += "(end)\n";

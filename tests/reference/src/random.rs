@@ -917,6 +917,14 @@ pub fn stair(rows: u16, columns: u16) -> (Record, Vec<u8>) {
     (record, cells)
 }
 
+/// Req 01 on a stair: row i is the wire 2i of the chain from row 0 and column
+/// j the wire 2j + 1; the chain ends where there is no next row or column.
+pub fn stair_first_rounds(rows: u16, columns: u16) -> Vec<u16> {
+    let on_rows = (0..rows).map(|row| if row <= columns { 2 * row + 1 } else { 0 });
+    let on_columns = (0..columns).map(|column| if column < rows { 2 * column + 2 } else { 0 });
+    on_rows.chain(on_columns).collect()
+}
+
 /// How many kinds of damage `damaged_record` knows.
 pub const RECORD_DAMAGES: usize = 12;
 

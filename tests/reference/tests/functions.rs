@@ -32,12 +32,12 @@ fn agrees(function: &Function, labels: &Labels) -> bool {
     for number in 0..1u64 << job.switches {
         let setting = setting_of(number, job.switches);
         let due = (function.truth)(&setting);
-        let (rounds, lit) = light(&record, &cells, &setting, room).unwrap();
+        let (rounds, first_rounds) = light(&record, &cells, &setting, room).unwrap();
         assert!(rounds < u32::from(record.rows + record.columns));
         assert_eq!(due.len(), job.outs.len(), "{name}");
         for (output, &value) in due.iter().enumerate() {
-            let row = usize::from(record.outs[output]);
-            assert_eq!(lit[row], value, "{name} lamp {output} {setting:?}");
+            let lamp = reading(&first_rounds, record.outs[output]);
+            assert_eq!(lamp, value, "{name} lamp {output} {setting:?}");
             // The text is read anew only now and then.
             let walked = if number % 64 == 0 {
                 walk(&text, &setting, output)
@@ -77,10 +77,10 @@ fn large_functions_under_some_settings() {
             accepted += 1;
             for _ in 0..40 {
                 let setting = random::setting(&mut rng, job.switches);
-                let (_, lit) = light(&record, &cells, &setting, usize::MAX).unwrap();
+                let (_, first_rounds) = light(&record, &cells, &setting, usize::MAX).unwrap();
                 for (output, value) in (function.truth)(&setting).into_iter().enumerate() {
-                    let row = usize::from(record.outs[output]);
-                    assert_eq!(lit[row], value, "{name} lamp {output}");
+                    let lamp = reading(&first_rounds, record.outs[output]);
+                    assert_eq!(lamp, value, "{name} lamp {output}");
                     assert_eq!(walk_job(&job, &setting, output), Ok(value), "{name}");
                 }
             }
@@ -140,8 +140,8 @@ fn document_003_and_or_c() {
     for number in 0..8 {
         let setting = setting_of(number, 3);
         let due = setting[0] & setting[1] | setting[2];
-        let (_, lit) = light(&record, &cells, &setting, 6).unwrap();
-        assert_eq!(lit[usize::from(record.outs[0])], due);
+        let (_, first_rounds) = light(&record, &cells, &setting, 6).unwrap();
+        assert_eq!(reading(&first_rounds, record.outs[0]), due);
         assert_eq!(walk(text.as_bytes(), &setting, 0), Ok(due));
     }
 }
@@ -150,9 +150,11 @@ fn document_003_and_or_c() {
 fn readings(text: &str, setting: &[u8]) -> Vec<u8> {
     let (record, cells) = load(text.as_bytes(), usize::MAX).unwrap();
     assert_eq!(print(&record, &cells, text.len()).unwrap(), text.as_bytes());
-    let (_, lit) = light(&record, &cells, setting, usize::MAX).unwrap();
+    let (_, first_rounds) = light(&record, &cells, setting, usize::MAX).unwrap();
     let outs = &record.outs[..usize::from(record.outputs)];
-    outs.iter().map(|&row| lit[usize::from(row)]).collect()
+    outs.iter()
+        .map(|&row| reading(&first_rounds, row))
+        .collect()
 }
 
 #[test]

@@ -1,44 +1,90 @@
 //! Seeded jobs, crossbars and damaged copies of them.
 
+use reference::host::{record_bytes, Call};
 use reference::random::*;
 use reference::*;
+use std::collections::VecDeque;
+
+/// The codes of the cells that conduct under a setting, not by the function
+/// that light uses: on, and for each switch `yes` when it is 1 and `no` when it
+/// is 0.
+fn conducting(setting: &[u8]) -> [bool; 256] {
+    let mut codes = [false; 256];
+    codes[1] = true;
+    for (switch, &value) in setting.iter().enumerate() {
+        codes[3 + 2 * switch - usize::from(value)] = true;
+    }
+    codes
+}
+
+/// The cells of a wire, each with the wire that it joins this one to.
+fn cells_of(wire: usize, rows: usize, columns: usize, cells: &[u8]) -> Vec<(usize, u8)> {
+    if wire < rows {
+        (0..columns)
+            .map(|column| (rows + column, cells[wire * columns + column]))
+            .collect()
+    } else {
+        (0..rows)
+            .map(|row| (row, cells[row * columns + wire - rows]))
+            .collect()
+    }
+}
 
 /// Document 01, "What an output reads", by another way than rounds: for each
-/// wire the length of the shortest chain from row 0.
-fn distances(record: &Record, cells: &[u8], setting: &[u8]) -> Vec<Option<u32>> {
+/// wire the least count of conducting cells of a chain from row 0, by a search
+/// that goes from each wire over its cells, the nearest wires first.
+fn shortest_chains(record: &Record, cells: &[u8], setting: &[u8]) -> Vec<Option<u32>> {
+    let conducting = conducting(setting);
     let rows = usize::from(record.rows);
     let columns = usize::from(record.columns);
-    let mut far = vec![None; rows + columns];
-    far[0] = Some(0);
-    let mut queue = vec![0];
-    let mut next = 0;
-    while next < queue.len() {
-        let wire = queue[next];
-        next += 1;
-        for other in 0..rows + columns {
-            let (row, column) = if wire < rows && other >= rows {
-                (wire, other - rows)
-            } else if wire >= rows && other < rows {
-                (other, wire - rows)
-            } else {
-                continue;
-            };
-            if far[other].is_none() && conducts(cells[row * columns + column], setting) {
-                far[other] = far[wire].map(|length: u32| length + 1);
-                queue.push(other);
+    let mut chains = vec![None; rows + columns];
+    chains[0] = Some(0);
+    let mut queue = VecDeque::from([(0, 0)]);
+    while let Some((wire, length)) = queue.pop_front() {
+        for (other, code) in cells_of(wire, rows, columns, cells) {
+            if chains[other].is_none() && conducting[usize::from(code)] {
+                chains[other] = Some(length + 1);
+                queue.push_back((other, length + 1));
             }
         }
     }
-    far
+    chains
 }
 
-fn check_light(record: &Record, cells: &[u8], setting: &[u8]) -> Vec<u8> {
-    let far = distances(record, cells, setting);
-    let (rounds, lit) = light(record, cells, setting, far.len()).unwrap();
-    let due: Vec<u8> = far.iter().map(|way| u8::from(way.is_some())).collect();
-    assert_eq!(lit, due);
-    assert_eq!(Some(rounds), far.iter().filter_map(|way| *way).max());
-    lit
+/// Req 01: a wire's number less 1 is the least count of conducting cells of
+/// any chain to it, and a wire that no chain comes to has 0. The largest number
+/// is the count of rounds plus 1.
+fn check_light(record: &Record, cells: &[u8], setting: &[u8]) -> (u32, Vec<u16>) {
+    let chains = shortest_chains(record, cells, setting);
+    let (rounds, first_rounds) = light(record, cells, setting, chains.len()).unwrap();
+    let less_one: Vec<Option<u32>> = first_rounds
+        .iter()
+        .map(|&number| u32::from(number).checked_sub(1))
+        .collect();
+    assert_eq!(less_one, chains);
+    let largest = first_rounds.iter().copied().max().map(u32::from);
+    assert_eq!(largest, Some(rounds + 1));
+    (rounds, first_rounds)
+}
+
+/// Req 01 for the host: two bytes a number, low first, then zeros to the end
+/// of the slice.
+fn check_host_light(record: &Record, cells: &[u8], setting: &[u8], more: usize) {
+    let (rounds, first_rounds) = light(record, cells, setting, usize::MAX).unwrap();
+    let mut due = Vec::new();
+    for number in first_rounds {
+        due.push((number % 256) as u8);
+        due.push((number / 256) as u8);
+    }
+    due.resize(due.len() + more, 0);
+    let answer = host::answer(&Call::Light {
+        record: &record_bytes(record),
+        cells,
+        setting,
+        first_rounds: due.len(),
+    });
+    assert_eq!(answer.word, u64::from(rounds));
+    assert_eq!(answer.outputs, [due]);
 }
 
 #[test]
@@ -76,19 +122,18 @@ fn jobs_are_accepted_and_agree() {
 
         for _ in 0..4 {
             let setting = setting(&mut rng, job.switches);
-            let lit = check_light(&record, &cells, &setting);
+            let (rounds, first_rounds) = check_light(&record, &cells, &setting);
             let mut reads = String::new();
             for (output, &row) in record.outs[..job.outs.len()].iter().enumerate() {
-                let reading = lit[usize::from(row)];
-                assert_eq!(walk_job(&job, &setting, output), Ok(reading));
-                reads += &format!("(reads {output} {reading})\n");
-                dark += usize::from(reading == 0);
+                let value = reading(&first_rounds, row);
+                assert_eq!(walk_job(&job, &setting, output), Ok(value));
+                reads += &format!("(reads {output} {value})\n");
+                dark += usize::from(value == 0);
             }
             assert_eq!(
                 walk(&text, &setting, 0),
-                Ok(lit[usize::from(record.outs[0])])
+                Ok(reading(&first_rounds, record.outs[0]))
             );
-            let (rounds, _) = light(&record, &cells, &setting, lit.len()).unwrap();
             let printed = format!("(rounds {rounds})\n{reads}(end)\n");
             let input = light_input(&setting, &listing);
             assert_eq!(light_program(&input), printed.as_bytes());
@@ -112,9 +157,10 @@ fn small_jobs_under_every_setting() {
         let (record, cells) = map(&job.text(), usize::MAX).unwrap();
         for number in 0..1 << job.switches {
             let setting = setting_of(number, job.switches);
-            let (_, lit) = light(&record, &cells, &setting, usize::MAX).unwrap();
+            let (_, first_rounds) = check_light(&record, &cells, &setting);
             for (output, &row) in record.outs[..job.outs.len()].iter().enumerate() {
-                assert_eq!(walk_job(&job, &setting, output), Ok(lit[usize::from(row)]));
+                let value = reading(&first_rounds, row);
+                assert_eq!(walk_job(&job, &setting, output), Ok(value));
             }
         }
     }
@@ -132,6 +178,7 @@ fn crossbars_print_load_and_light() {
         assert_eq!(lines, 2 + filled + usize::from(record.outputs));
         let setting = setting(&mut rng, record.switches);
         check_light(&record, &cells, &setting);
+        check_host_light(&record, &cells, &setting, rng.below(5));
         let wrong = damaged_setting(&mut rng, record.switches);
         let due = Err(Refusal {
             number: 13,

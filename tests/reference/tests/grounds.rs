@@ -1,6 +1,7 @@
 //! Each ground of document 01, "Grounds for sending a job back", with its
 //! number and line, and the order of the grounds.
 
+use reference::host::{record_bytes, Answer, Call};
 use reference::*;
 
 const GOOD: &str = "\
@@ -558,6 +559,65 @@ fn ground_14() {
     assert!(print(&record, &cells, LISTING.len()).is_ok());
 }
 
+/// Light as the host calls it, on LISTING's crossbar with such a record.
+fn host_light(record: &[u8], setting: &[u8], first_rounds: usize) -> Answer {
+    let (_, cells) = load(LISTING.as_bytes(), 9).unwrap();
+    host::answer(&Call::Light {
+        record,
+        cells: &cells,
+        setting,
+        first_rounds,
+    })
+}
+
+#[test]
+fn light_at_the_host() {
+    let (record, _) = load(LISTING.as_bytes(), 9).unwrap();
+    let record = record_bytes(&record);
+    // Rows 0 to 2 and columns 0 to 2 take 12 bytes. An answer has every byte
+    // of the slice, so what the slice held before does not matter.
+    let refused = |record: &[u8], setting: &[u8], length: usize, number: u32| {
+        let answer = host_light(record, setting, length);
+        assert_eq!(answer.word, host::refusal_word(refusal(number, 0)));
+        assert_eq!(answer.outputs, [vec![0; length]]);
+    };
+    for length in 0..12 {
+        refused(&record, &[0, 1], length, 14);
+    }
+    // 13 comes before 14, and 12 before both.
+    for length in (0..16).chain([99]) {
+        refused(&record, &[0, 2], length, 13);
+        refused(&record, &[0], length, 13);
+        refused(&record[..71], &[0, 1], length, 12);
+        refused(&record[..71], &[0, 2], length, 12);
+    }
+
+    // A cell joins row 1 and column 1, but no chain from row 0 comes to them.
+    let due = [1, 0, 0, 0, 0, 0, 2, 0, 0, 0, 2, 0];
+    for length in [12, 13, 14, 15, 511, 512, 513] {
+        let answer = host_light(&record, &[0, 1], length);
+        assert_eq!(answer.word, 1);
+        let mut whole = due.to_vec();
+        whole.resize(length, 0);
+        assert_eq!(answer.outputs, [whole]);
+    }
+}
+
+#[test]
+fn numbers_above_255_take_both_bytes() {
+    // Only the last of 256 wires can have one: a column, after 255 rounds.
+    let (record, cells) = random::stair(128, 128);
+    let answer = host::answer(&Call::Light {
+        record: &record_bytes(&record),
+        cells: &cells,
+        setting: &[],
+        first_rounds: 513,
+    });
+    assert_eq!(answer.word, 255);
+    assert_eq!(answer.output(0)[508..], [254, 0, 0, 1, 0]);
+    assert_eq!(answer.output(0)[254..256], [255, 0]);
+}
+
 #[test]
 fn ground_15_never_comes() {
     // Each round before the last adds a wire, so R + C - 1 rounds are enough;
@@ -574,9 +634,12 @@ fn ground_15_never_comes() {
     ] {
         let (record, cells) = random::stair(rows, columns);
         let wires = usize::from(rows + columns);
-        let (rounds, lit) = light(&record, &cells, &[], wires).unwrap();
+        let (rounds, first_rounds) = light(&record, &cells, &[], wires).unwrap();
         assert_eq!(rounds as usize, wires - 1);
-        assert_eq!(lit, vec![1; wires]);
+        assert_eq!(first_rounds, random::stair_first_rounds(rows, columns));
+        let mut rising = first_rounds.clone();
+        rising.sort();
+        assert!(rising.into_iter().eq(1..=rows + columns));
     }
 }
 

@@ -1,5 +1,7 @@
-//! The job sheets of document 01, A to I and the lines on sizes.
+//! The job sheets of document 01, A to I and the lines on sizes. What light
+//! answers is in the terms of Req 01.
 
+use reference::host::{record_bytes, Answer, Call};
 use reference::random::{job_of_size, light_input};
 use reference::*;
 
@@ -81,17 +83,19 @@ fn sheet_a() {
 #[test]
 fn sheets_b_c_d() {
     let (record, cells) = map(A.as_bytes(), 2).unwrap();
-    for (setting, rounds, lit, reading) in [
-        ([1, 1], 2, [1, 1, 1], 1),
+    // Rows 0 and 1, then column 0.
+    for (setting, rounds, first_rounds, value) in [
+        ([1, 1], 2, [1, 3, 2], 1),
         ([1, 0], 0, [1, 0, 0], 0),
-        ([0, 1], 1, [1, 0, 1], 0),
+        ([0, 1], 1, [1, 0, 2], 0),
         ([0, 0], 0, [1, 0, 0], 0),
     ] {
         let answer = light(&record, &cells, &setting, 3);
-        assert_eq!(answer, Ok((rounds, lit.to_vec())));
-        assert_eq!(walk(A.as_bytes(), &setting, 0), Ok(reading));
+        assert_eq!(answer, Ok((rounds, first_rounds.to_vec())));
+        assert_eq!(reading(&first_rounds, record.outs[0]), value);
+        assert_eq!(walk(A.as_bytes(), &setting, 0), Ok(value));
         let input = light_input(&setting, A_LISTING.as_bytes());
-        let printed = format!("(rounds {rounds})\n(reads 0 {reading})\n(end)\n");
+        let printed = format!("(rounds {rounds})\n(reads 0 {value})\n(end)\n");
         assert_eq!(light_program(&input), printed.as_bytes());
     }
     let input = format!("(set 1 1)\n{A_LISTING}");
@@ -106,12 +110,18 @@ fn sheet_e() {
     assert_eq!(cells, [yes(1), yes(0), no(0), ON]);
     assert_eq!(cells, [4, 2, 3, 1]);
     assert_eq!(record.outs, outs(&[1]));
-    for a in 0..2 {
-        for b in 0..2 {
-            let (_, lit) = light(&record, &cells, &[a, b], 4).unwrap();
-            assert_eq!(lit[1], a | b);
-            assert_eq!(walk(E.as_bytes(), &[a, b], 0), Ok(a | b));
-        }
+    // Rows 0 and 1, then columns 0 and 1.
+    for (setting, rounds, first_rounds) in [
+        ([0, 0], 0, [1, 0, 0, 0]),
+        ([0, 1], 3, [1, 3, 2, 4]),
+        ([1, 0], 2, [1, 3, 0, 2]),
+        ([1, 1], 2, [1, 3, 2, 2]),
+    ] {
+        let answer = light(&record, &cells, &setting, 4);
+        assert_eq!(answer, Ok((rounds, first_rounds.to_vec())));
+        let or = setting[0] | setting[1];
+        assert_eq!(reading(&first_rounds, record.outs[0]), or);
+        assert_eq!(walk(E.as_bytes(), &setting, 0), Ok(or));
     }
 }
 
@@ -137,6 +147,8 @@ fn sheet_g() {
     assert_eq!(record, due);
     assert!(cells.is_empty());
     assert_eq!(light(&record, &cells, &[], 2), Ok((0, vec![1, 0])));
+    assert_eq!(reading(&[1, 0], record.outs[0]), 0);
+    assert_eq!(reading(&[1, 0], record.outs[1]), 1);
     assert_eq!(walk(G.as_bytes(), &[], 0), Ok(0));
     assert_eq!(walk(G.as_bytes(), &[], 1), Ok(1));
     let listing = "(crossbar 2 0 0 2)\n(out 0 1)\n(out 1 0)\n(end)\n";
@@ -152,7 +164,18 @@ fn sheet_h() {
     let (record, cells) = load(text, 6).unwrap();
     assert_eq!(cells, [1, 0, 0, 0, 1, 0]);
     // Rows 0, 1, 2, then columns 0 and 1.
-    assert_eq!(light(&record, &cells, &[], 5), Ok((2, vec![1, 0, 1, 1, 0])));
+    assert_eq!(light(&record, &cells, &[], 5), Ok((2, vec![1, 0, 3, 2, 0])));
+    let call = Call::Light {
+        record: &record_bytes(&record),
+        cells: &cells,
+        setting: &[],
+        first_rounds: 10,
+    };
+    let due = Answer {
+        word: 2,
+        outputs: vec![vec![1, 0, 0, 0, 3, 0, 2, 0, 0, 0]],
+    };
+    assert_eq!(host::answer(&call), due);
 }
 
 #[test]
@@ -162,9 +185,9 @@ fn sheet_i() {
     assert_eq!(cells, [yes(1), no(1), yes(0), OFF, no(0), yes(0)]);
     for a in 0..2u8 {
         for b in 0..2u8 {
-            let (_, lit) = light(&record, &cells, &[a, b], 5).unwrap();
-            assert_eq!(lit[2], (a + b) % 2);
-            assert_eq!(lit[1], (a + b) / 2);
+            let (_, first_rounds) = light(&record, &cells, &[a, b], 5).unwrap();
+            assert_eq!(reading(&first_rounds, 2), (a + b) % 2);
+            assert_eq!(reading(&first_rounds, 1), (a + b) / 2);
             let answer = light_program(&light_input(&[a, b], text));
             let answer = String::from_utf8(answer).unwrap();
             let reads = format!("(reads 0 {})\n(reads 1 {})\n", (a + b) % 2, (a + b) / 2);
@@ -255,7 +278,7 @@ fn switches_64_and_65() {
     let mut setting = [0; 64];
     assert_eq!(light(&record, &cells, &setting, 3), Ok((0, vec![1, 0, 0])));
     setting[63] = 1;
-    assert_eq!(light(&record, &cells, &setting, 3), Ok((2, vec![1, 1, 1])));
+    assert_eq!(light(&record, &cells, &setting, 3), Ok((2, vec![1, 3, 2])));
     let text = text.replacen("(job 64", "(job 65", 1);
     assert_eq!(read_job(text.as_bytes()), Err(refusal(2, 1)));
 }

@@ -1,8 +1,9 @@
 //! Random jobs, crossbars and texts, right and damaged.
 
 use crate::run::Run;
-use reference::host::{record_bytes, record_of};
+use reference::host::{numbers_of, record_bytes, record_of};
 use reference::random::*;
+use reference::reading;
 
 /// Valid jobs of all sizes through every call.
 pub fn jobs(run: &mut Run) {
@@ -26,12 +27,14 @@ pub fn jobs(run: &mut Run) {
 
         for _ in 0..4 {
             let setting = setting(&mut run.rng, job.switches);
-            let wires = job.rows() + job.columns() + run.rng.below(3);
-            let lit = run.light(record, cells, &setting, wires);
+            let need = 2 * (job.rows() + job.columns());
+            let length = need + run.rng.below(5);
+            let lit = run.light(record, cells, &setting, length);
             let output = run.rng.below(job.outs.len());
             let walked = run.walk(&text, &setting, output as u32);
-            let row = usize::from(record[8 + 2 * output]);
-            run.demand(u64::from(lit.output(0)[row]) == walked.value(), || {
+            let row = numbers_of(record)[4 + output];
+            let value = reading(&numbers_of(lit.output(0)), row);
+            run.demand(u64::from(value) == walked.value(), || {
                 format!("output {output} under {setting:?} of\n{text:?}\n")
             });
         }
@@ -55,9 +58,9 @@ pub fn crossbars(run: &mut Run) {
         run.print(&bytes, &longer, text.len());
         for _ in 0..5 {
             let setting = setting(&mut run.rng, record.switches);
-            let wires = usize::from(record.rows + record.columns);
-            run.light(&bytes, &cells, &setting, wires);
-            run.light(&bytes, &longer, &setting, wires + more);
+            let need = 2 * usize::from(record.rows + record.columns);
+            run.light(&bytes, &cells, &setting, need);
+            run.light(&bytes, &longer, &setting, need + more);
         }
     }
 }
@@ -150,13 +153,16 @@ pub fn listings(run: &mut Run) {
     }
 }
 
-/// A length that may fit or not.
+/// A length that may fit or not. By 2 it is one number of light too short or
+/// too long.
 fn length(rng: &mut Rng, need: usize) -> usize {
-    match rng.below(6) {
+    match rng.below(9) {
         0 => rng.below(need + 1),
         1 => need.saturating_sub(1),
-        2 => need + 1,
-        3 => need + rng.below(100),
+        2 => need.saturating_sub(2),
+        3 => need + 1,
+        4 => need + 2,
+        5 => need + rng.below(100),
         _ => need,
     }
 }
@@ -189,8 +195,8 @@ pub fn anything(run: &mut Run) {
         let bytes = record_bytes(&record);
         let setting = any_setting(&mut run.rng, record.switches);
         let wires = usize::from(record.rows.min(300)) + usize::from(record.columns.min(300));
-        let wires = length(&mut run.rng, wires);
-        run.light(&bytes, &cells, &setting, wires);
+        let first_rounds = length(&mut run.rng, 2 * wires);
+        run.light(&bytes, &cells, &setting, first_rounds);
         let need = listing(&record, &cells).len();
         let text = length(&mut run.rng, need);
         run.print(&bytes, &cells, text);
@@ -201,7 +207,7 @@ pub fn anything(run: &mut Run) {
         run.map(&noise, 80, 80);
         run.walk(&noise, &noise, noise.len() as u32);
         run.load(&noise, 80, 80);
-        run.light(&noise, &noise, &noise, 80);
+        run.light(&noise, &noise, &noise, many);
         let mut record = noise.clone();
         record.resize(72, 0);
         run.print(&record, &noise, 80);

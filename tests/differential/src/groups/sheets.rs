@@ -3,9 +3,9 @@
 
 use crate::run::Run;
 use reference::diagrams::{HALF_ADDER, STATIC_CROSSBAR};
-use reference::host::{record_bytes, record_of};
+use reference::host::{numbers_of, record_bytes, record_of};
 use reference::random::{job_of_size, setting_of};
-use reference::{Job, Label, Record};
+use reference::{reading, Job, Label, Record};
 
 pub const A: &str = "\
 (job 2 2 1)
@@ -76,18 +76,22 @@ pub fn sheets(run: &mut Run) {
         run.known(&answer, A_LISTING.len() as u64, &[A_LISTING.as_bytes()]);
     }
     // B, C, D and the setting that is left.
-    for (setting, rounds, lit, reading) in [
-        ([1, 1], 2, [1, 1, 1], 1),
+    for (setting, rounds, first_rounds, value) in [
+        ([1, 1], 2, [1, 3, 2], 1),
         ([1, 0], 0, [1, 0, 0], 0),
-        ([0, 1], 1, [1, 0, 1], 0),
+        ([0, 1], 1, [1, 0, 2], 0),
         ([0, 0], 0, [1, 0, 0], 0),
     ] {
-        for more in [0, 1, 200] {
-            let answer = run.light(&a_record, &[4, 2], &setting, 3 + more);
-            run.known(&answer, rounds, &[&lit]);
+        for length in 0..6 {
+            let answer = run.light(&a_record, &[4, 2], &setting, length);
+            run.known_refusal(&answer, 14, 0);
+        }
+        for length in [6, 7, 8, 9, 206, 207] {
+            let answer = run.light(&a_record, &[4, 2], &setting, length);
+            run.known_light(&answer, rounds, &first_rounds);
         }
         let answer = run.walk(A.as_bytes(), &setting, 0);
-        run.known(&answer, reading, &[]);
+        run.known(&answer, value, &[]);
         let answer = run.walk(A.as_bytes(), &setting, 1);
         run.known_refusal(&answer, 13, 0);
     }
@@ -95,14 +99,14 @@ pub fn sheets(run: &mut Run) {
     let e_record = record(2, 2, 2, &[1]);
     let answer = run.map(E.as_bytes(), 72, 4);
     run.known(&answer, 4, &[&e_record, &[4, 2, 3, 1]]);
-    for (setting, rounds, lit) in [
+    for (setting, rounds, first_rounds) in [
         ([0, 0], 0, [1, 0, 0, 0]),
-        ([0, 1], 3, [1, 1, 1, 1]),
-        ([1, 0], 2, [1, 1, 0, 1]),
-        ([1, 1], 2, [1, 1, 1, 1]),
+        ([0, 1], 3, [1, 3, 2, 4]),
+        ([1, 0], 2, [1, 3, 0, 2]),
+        ([1, 1], 2, [1, 3, 2, 2]),
     ] {
-        let answer = run.light(&e_record, &[4, 2, 3, 1], &setting, 4);
-        run.known(&answer, rounds, &[&lit]);
+        let answer = run.light(&e_record, &[4, 2, 3, 1], &setting, 8);
+        run.known_light(&answer, rounds, &first_rounds);
         let answer = run.walk(E.as_bytes(), &setting, 0);
         run.known(&answer, u64::from(setting[0] | setting[1]), &[]);
     }
@@ -117,8 +121,8 @@ pub fn sheets(run: &mut Run) {
     let g_record = record(2, 0, 0, &[1, 0]);
     let answer = run.map(G.as_bytes(), 72, 0);
     run.known(&answer, 0, &[&g_record, &[]]);
-    let answer = run.light(&g_record, &[], &[], 2);
-    run.known(&answer, 0, &[&[1]]);
+    let answer = run.light(&g_record, &[], &[], 4);
+    run.known_light(&answer, 0, &[1, 0]);
     for output in 0..2 {
         let answer = run.walk(G.as_bytes(), &[], output);
         run.known(&answer, u64::from(output), &[]);
@@ -127,8 +131,9 @@ pub fn sheets(run: &mut Run) {
     let h_record = record(3, 2, 0, &[0, 1, 2]);
     let answer = run.load(STATIC_CROSSBAR.as_bytes(), 72, 6);
     run.known(&answer, 6, &[&h_record, &[1, 0, 0, 0, 1, 0]]);
-    let answer = run.light(&h_record, &[1, 0, 0, 0, 1, 0], &[], 5);
-    run.known(&answer, 2, &[&[1, 0, 1, 1, 0]]);
+    let answer = run.light(&h_record, &[1, 0, 0, 0, 1, 0], &[], 10);
+    run.known_light(&answer, 2, &[1, 0, 3, 2, 0]);
+    run.known(&answer, 2, &[&[1, 0, 0, 0, 3, 0, 2, 0, 0, 0]]);
     // I.
     let i_record = record(3, 2, 2, &[2, 1]);
     let i_cells = [4, 5, 2, 0, 3, 2];
@@ -137,10 +142,12 @@ pub fn sheets(run: &mut Run) {
     for number in 0..4 {
         let setting = setting_of(number, 2);
         let sum = setting[0] + setting[1];
-        let answer = run.light(&i_record, &i_cells, &setting, 5);
-        let lit = answer.output(0);
-        let reads = (lit[2], lit[1]) == (sum % 2, sum / 2);
-        run.demand(reads, || format!("half adder under {setting:?}: {lit:?}\n"));
+        let answer = run.light(&i_record, &i_cells, &setting, 10);
+        let numbers = numbers_of(answer.output(0));
+        let readings = (reading(&numbers, 2), reading(&numbers, 1));
+        run.demand(readings == (sum % 2, sum / 2), || {
+            format!("half adder under {setting:?}: {numbers:?}\n")
+        });
     }
     // Empty text.
     let answer = run.map(b"", 72, 9);
@@ -205,7 +212,8 @@ fn one_size(run: &mut Run, job: &Job) {
     run.demand(sizes == Some((rows as u16, columns as u16)), || {
         format!("{rows} rows and {columns} columns, had {sizes:?}\n")
     });
-    run.light(answer.output(0), answer.output(1), &setting, rows + columns);
+    let first_rounds = 2 * (rows + columns);
+    run.light(answer.output(0), answer.output(1), &setting, first_rounds);
     // The same with one more node in the first line is another size.
     let head = format!("(job 64 {} ", job.nodes.len());
     let more = format!("(job 64 {} ", job.nodes.len() + 1);
@@ -284,8 +292,8 @@ fn listing_heads(run: &mut Run) {
                 if answer.number() == 0 {
                     run.print(answer.output(0), answer.output(1), text.len());
                     let setting = vec![0; v as usize];
-                    let wires = (r + c) as usize;
-                    run.light(answer.output(0), answer.output(1), &setting, wires);
+                    let first_rounds = 2 * (r + c) as usize;
+                    run.light(answer.output(0), answer.output(1), &setting, first_rounds);
                 }
             }
         }

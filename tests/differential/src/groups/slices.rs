@@ -2,8 +2,9 @@
 
 use super::sheets::{A, A_LISTING, E, F, G};
 use crate::run::Run;
+use differential::{MAX_FIRST_ROUNDS, MAX_LISTING};
 use reference::diagrams::{HALF_ADDER, PARITY_OF_THREE, STATIC_CROSSBAR};
-use reference::host::{record_bytes, record_of};
+use reference::host::{numbers_of, record_bytes, record_of};
 use reference::random::*;
 use reference::{map_job, Record};
 
@@ -13,7 +14,8 @@ fn both(run: &mut Run, record: &[u8], cells: &[u8], switches: u16) {
         return;
     }
     let setting = any_setting(&mut run.rng, switches);
-    let room = run.rng.pick(&[0, 3, 40, 256, 300]).unwrap_or(0);
+    let rooms = [0, 1, 6, 7, 80, 81, MAX_FIRST_ROUNDS, 599, 600];
+    let room = run.rng.pick(&rooms).unwrap_or(0);
     run.light(record, cells, &setting, room);
     let room = run.rng.pick(&[0, 20, 60, 400, 3000]).unwrap_or(0);
     run.print(record, cells, room);
@@ -29,7 +31,7 @@ pub fn records(run: &mut Run) {
             if let Some((damaged, cells)) = damaged {
                 let bytes = record_bytes(&damaged);
                 let setting = any_setting(&mut run.rng, damaged.switches.min(70));
-                let answer = run.light(&bytes, &cells, &setting, 300);
+                let answer = run.light(&bytes, &cells, &setting, MAX_FIRST_ROUNDS);
                 run.known_refusal(&answer, 12, 0);
                 let answer = run.print(&bytes, &cells, 500);
                 run.known_refusal(&answer, 12, 0);
@@ -85,14 +87,14 @@ pub fn records(run: &mut Run) {
 fn record_slices(run: &mut Run, record: &Record, cells: &[u8]) {
     let bytes = record_bytes(record);
     let setting = setting(&mut run.rng, record.switches);
-    let wires = usize::from(record.rows + record.columns);
+    let first_rounds = 2 * usize::from(record.rows + record.columns);
     let text = listing(record, cells);
-    let lit = run.light(&bytes, cells, &setting, wires);
+    let lit = run.light(&bytes, cells, &setting, first_rounds);
     for more in [1, 2, 56, 72, 300] {
         let mut longer = bytes.clone();
         longer.resize(bytes.len() + more, 0);
-        let answer = run.light(&longer, cells, &setting, wires);
-        run.known(&answer, lit.word, &[lit.output(0)]);
+        let answer = run.light(&longer, cells, &setting, first_rounds);
+        run.known_light(&answer, lit.word, &numbers_of(lit.output(0)));
         let answer = run.print(&longer, cells, text.len());
         run.known(&answer, text.len() as u64, &[&text]);
         let mut refused = vec![bytes[..bytes.len().saturating_sub(more)].to_vec()];
@@ -102,7 +104,7 @@ fn record_slices(run: &mut Run, record: &Record, cells: &[u8]) {
             refused.push(damaged);
         }
         for slice in refused {
-            let answer = run.light(&slice, cells, &setting, wires);
+            let answer = run.light(&slice, cells, &setting, first_rounds);
             run.known_refusal(&answer, 12, 0);
             let answer = run.print(&slice, cells, text.len());
             run.known_refusal(&answer, 12, 0);
@@ -181,9 +183,9 @@ pub fn small_buffers(run: &mut Run) {
         let Ok((record, cells)) = made else { continue };
         let bytes = record_bytes(&record);
         let setting = setting(&mut run.rng, record.switches);
-        for wires in 0..usize::from(record.rows + record.columns) + 4 {
+        for length in 0..2 * usize::from(record.rows + record.columns) + 6 {
             if !run.leaves_out() {
-                run.light(&bytes, &cells, &setting, wires);
+                run.light(&bytes, &cells, &setting, length);
             }
         }
         for room in 0..listing(&record, &cells).len() + 4 {
@@ -242,12 +244,35 @@ pub fn large_buffers(run: &mut Run) {
     let cells = [128; 128 * 128];
     around(run, &record, &cells, None);
     let longest = listing(&record, &cells).len();
-    run.demand(longest <= differential::MAX_LISTING, || {
+    run.demand(longest <= MAX_LISTING, || {
         format!("a listing of {longest} bytes\n")
     });
     let bytes = record_bytes(&record);
-    let answer = run.print(&bytes, &cells, differential::MAX_LISTING);
+    let answer = run.print(&bytes, &cells, MAX_LISTING);
     run.demand(answer.value() == longest as u64, || format!("{answer:?}\n"));
+    // The most wires that there are.
+    let setting = setting(&mut run.rng, record.switches);
+    let answer = run.light(&bytes, &cells, &setting, MAX_FIRST_ROUNDS);
+    run.demand(answer.number() == 0, || format!("refused: {answer:?}\n"));
+    let answer = run.light(&bytes, &cells, &setting, MAX_FIRST_ROUNDS - 1);
+    run.known_refusal(&answer, 14, 0);
+}
+
+/// Lengths around the need of light's numbers: one byte and one number less
+/// and more, one byte a wire, and the ends.
+fn lengths_around(first_rounds: usize) -> [usize; 10] {
+    [
+        first_rounds - 2,
+        first_rounds - 1,
+        first_rounds,
+        first_rounds + 1,
+        first_rounds + 2,
+        first_rounds / 2,
+        0,
+        1,
+        first_rounds + 300,
+        first_rounds + 301,
+    ]
 }
 
 /// Each buffer one too short, just right and one too long.
@@ -272,8 +297,8 @@ fn around(run: &mut Run, record: &Record, cells: &[u8], job: Option<&[u8]>) {
         run.load(&text, record_length, cells_length);
     }
     let setting = setting(&mut run.rng, record.switches);
-    let wires = usize::from(record.rows + record.columns);
-    for length in [wires - 1, wires, wires + 1, 0, 1, wires + 300] {
+    let first_rounds = 2 * usize::from(record.rows + record.columns);
+    for length in lengths_around(first_rounds) {
         run.light(&bytes, cells, &setting, length);
     }
     for length in [text.len() - 1, text.len(), text.len() + 1, 0, 1] {
@@ -283,13 +308,13 @@ fn around(run: &mut Run, record: &Record, cells: &[u8], job: Option<&[u8]>) {
     let mut longer = cells.to_vec();
     longer.push(0);
     run.print(&bytes, &longer, text.len());
-    run.light(&bytes, &longer, &setting, wires);
+    run.light(&bytes, &longer, &setting, first_rounds);
     longer[need] = 1;
     run.print(&bytes, &longer, text.len());
-    run.light(&bytes, &longer, &setting, wires);
+    run.light(&bytes, &longer, &setting, first_rounds);
     if need > 0 {
         run.print(&bytes, &cells[..need - 1], text.len());
-        run.light(&bytes, &cells[..need - 1], &setting, wires);
+        run.light(&bytes, &cells[..need - 1], &setting, first_rounds);
     }
 }
 
@@ -312,7 +337,7 @@ pub fn settings(run: &mut Run) {
         let text = job.text();
         let (record, cells) = map_job(&job);
         let record = record_bytes(&record);
-        let wires = job.rows() + job.columns();
+        let first_rounds = 2 * (job.rows() + job.columns());
         let outputs = job.outs.len() as u32;
         for length in 0..=70 {
             if run.leaves_out() {
@@ -320,7 +345,7 @@ pub fn settings(run: &mut Run) {
             }
             let setting: Vec<u8> = (0..length).map(|_| run.rng.below(2) as u8).collect();
             run.walk(&text, &setting, outputs - 1);
-            run.light(&record, &cells, &setting, wires);
+            run.light(&record, &cells, &setting, first_rounds);
         }
         for place in 0..switches {
             for byte in [2, 3, b'0', b'1', 127, 128, 254, 255] {
@@ -331,7 +356,7 @@ pub fn settings(run: &mut Run) {
                 setting[place] = byte;
                 let answer = run.walk(&text, &setting, 0);
                 run.known_refusal(&answer, 13, 0);
-                let answer = run.light(&record, &cells, &setting, wires);
+                let answer = run.light(&record, &cells, &setting, first_rounds);
                 run.known_refusal(&answer, 13, 0);
             }
         }
@@ -355,12 +380,14 @@ pub fn order(run: &mut Run) {
         let text = job.text();
         let (record, cells) = map_job(&job);
         let bytes = record_bytes(&record);
-        let wires = job.rows() + job.columns();
+        let first_rounds = 2 * (job.rows() + job.columns());
         let wrong = damaged_setting(&mut run.rng, job.switches);
 
         // 13 before 14, 12 before both.
-        let answer = run.light(&bytes, &cells, &wrong, wires - 1);
-        run.known_refusal(&answer, 13, 0);
+        for length in [first_rounds - 1, first_rounds - 2] {
+            let answer = run.light(&bytes, &cells, &wrong, length);
+            run.known_refusal(&answer, 13, 0);
+        }
         let kind = run.rng.below(RECORD_DAMAGES);
         if let Some((record, cells)) = damaged_record(&mut run.rng, &record, &cells, kind) {
             let bytes = record_bytes(&record);

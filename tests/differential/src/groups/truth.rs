@@ -2,9 +2,9 @@
 
 use crate::run::Run;
 use reference::diagrams::{functions as all_functions, large_functions as all_large, Function};
-use reference::host::{record_bytes, Answer, Call};
+use reference::host::{number_bytes, record_bytes, Answer, Call};
 use reference::random::*;
-use reference::{light, map_job, no, random, walk_job, yes, Job, Record};
+use reference::{light, map_job, no, random, reading, walk_job, yes, Job, Record};
 
 thread_local! {
     /// The functions, built once for each thread.
@@ -24,7 +24,7 @@ fn mapped(run: &mut Run, job: &Job) -> (Record, Vec<u8>) {
     map_job(job)
 }
 
-/// One setting: the lit wires as they must be, every output read off them,
+/// One setting: the first rounds as they must be, every output read off them,
 /// and the walk of some outputs.
 fn one_setting(
     run: &mut Run,
@@ -37,14 +37,14 @@ fn one_setting(
 ) {
     let (record, cells) = crossbar;
     let wires = job.rows() + job.columns();
-    let (rounds, lit) = match light(record, cells, setting, wires) {
+    let (rounds, first_rounds) = match light(record, cells, setting, wires) {
         Ok(answer) => answer,
         Err(refusal) => return run.fault(format!("{refusal:?}\n")),
     };
     for (output, &value) in due.iter().enumerate() {
-        let reading = lit[usize::from(record.outs[output])];
-        run.demand(reading == value, || {
-            format!("output {output} reads {reading} under {setting:?}\n")
+        let had = reading(&first_rounds, record.outs[output]);
+        run.demand(had == value, || {
+            format!("output {output} reads {had} under {setting:?}\n")
         });
     }
     run.compare(
@@ -52,11 +52,11 @@ fn one_setting(
             record: &record_bytes(record),
             cells,
             setting,
-            wires,
+            first_rounds: 2 * wires,
         },
         &Answer {
             word: u64::from(rounds),
-            outputs: vec![lit],
+            outputs: vec![number_bytes(&first_rounds)],
         },
     );
     for output in walks {
@@ -162,9 +162,26 @@ pub fn readings(run: &mut Run) {
     }
 }
 
+/// A crossbar with a setting, and what light must answer.
+struct Lamp {
+    record: Vec<u8>,
+    cells: Vec<u8>,
+    setting: Vec<u8>,
+    rounds: u64,
+    first_rounds: Vec<u16>,
+}
+
+impl Lamp {
+    fn check(&self, run: &mut Run) {
+        let length = 2 * self.first_rounds.len();
+        let answer = run.light(&self.record, &self.cells, &self.setting, length);
+        run.known_light(&answer, self.rounds, &self.first_rounds);
+    }
+}
+
 /// A chain through wires in any order: each step conducts under the setting
 /// and no other cell does. So one wire is lit in each round.
-fn snake(rng: &mut Rng, rows: u16, columns: u16, switches: u16) -> (Record, Vec<u8>, Vec<u8>, u64) {
+fn snake(rng: &mut Rng, rows: u16, columns: u16, switches: u16) -> Lamp {
     let setting = setting(rng, switches);
     let width = usize::from(columns);
     let literal = |rng: &mut Rng, conducts: bool| {
@@ -186,17 +203,21 @@ fn snake(rng: &mut Rng, rows: u16, columns: u16, switches: u16) -> (Record, Vec<
         .collect();
     let mut rows_left: Vec<usize> = (1..usize::from(rows)).collect();
     let mut columns_left: Vec<usize> = (0..width).collect();
+    let mut first_rounds = vec![0; usize::from(rows) + width];
+    first_rounds[0] = 1;
     let (mut row, mut steps) = (0, 0);
     while !columns_left.is_empty() {
         let column = columns_left.remove(rng.below(columns_left.len()));
         cells[row * width + column] = literal(rng, true);
         steps += 1;
+        first_rounds[usize::from(rows) + column] = steps + 1;
         if rows_left.is_empty() {
             break;
         }
         row = rows_left.remove(rng.below(rows_left.len()));
         cells[row * width + column] = literal(rng, true);
         steps += 1;
+        first_rounds[row] = steps + 1;
     }
     let mut outs = [0; 32];
     for out in &mut outs {
@@ -209,7 +230,13 @@ fn snake(rng: &mut Rng, rows: u16, columns: u16, switches: u16) -> (Record, Vec<
         outputs: 32,
         outs,
     };
-    (record, cells, setting, steps)
+    Lamp {
+        record: record_bytes(&record),
+        cells,
+        setting,
+        rounds: u64::from(steps),
+        first_rounds,
+    }
 }
 
 /// Crossbars that need many rounds, or few with many cells.
@@ -219,37 +246,33 @@ pub fn lamp(run: &mut Run) {
         let rows = run.rng.from_to(1, most) as u16;
         let columns = run.rng.from_to(0, most) as u16;
         let switches = run.rng.pick(&[0, 1, 5, 63, 64]).unwrap_or(0);
-        let (record, cells, setting, steps) = snake(&mut run.rng, rows, columns, switches);
-        let bytes = record_bytes(&record);
-        let wires = usize::from(rows + columns);
-        let answer = run.light(&bytes, &cells, &setting, wires);
-        run.demand(answer.word == steps, || {
-            format!("{steps} rounds are due, had {}\n", answer.word)
-        });
+        snake(&mut run.rng, rows, columns, switches).check(run);
         let (record, cells) = stair(rows, columns);
-        run.light(&record_bytes(&record), &cells, &[], wires);
+        let length = 2 * usize::from(rows + columns);
+        let answer = run.light(&record_bytes(&record), &cells, &[], length);
+        let due = stair_first_rounds(rows, columns);
+        let last = due.iter().copied().max().unwrap_or(1);
+        run.known_light(&answer, u64::from(last - 1), &due);
     }
     // The largest: a chain through all 256 wires, all cells on, one round.
     let switches = run.rng.pick(&[0, 64]).unwrap_or(0);
-    let (record, cells, setting, steps) = snake(&mut run.rng, 128, 128, switches);
-    let bytes = record_bytes(&record);
-    let answer = run.light(&bytes, &cells, &setting, 256);
-    run.demand(answer.word == steps && steps == 255, || {
-        format!("{steps} rounds are due, had {}\n", answer.word)
-    });
-    let answer = run.light(&bytes, &[1; 16_384], &setting, 256);
-    run.known(&answer, 2, &[&[1; 256]]);
-    let mut one_round = [0; 16_384];
-    one_round[..128].fill(1);
-    let answer = run.light(&bytes, &one_round, &setting, 256);
-    let mut lit = [0; 256];
-    lit[0] = 1;
-    lit[128..].fill(1);
-    run.known(&answer, 1, &[&lit]);
+    let mut lamp = snake(&mut run.rng, 128, 128, switches);
+    lamp.check(run);
+    run.demand(lamp.rounds == 255, || format!("{} rounds\n", lamp.rounds));
+    lamp.cells = vec![1; 16_384];
+    lamp.rounds = 2;
+    lamp.first_rounds[..128].fill(3);
+    lamp.first_rounds[128..].fill(2);
+    lamp.first_rounds[0] = 1;
+    lamp.check(run);
+    lamp.cells[128..].fill(0);
+    lamp.rounds = 1;
+    lamp.first_rounds[1..128].fill(0);
+    lamp.check(run);
     for _ in 0..run.times(10) {
         let (record, cells) = crossbar(&mut run.rng);
         let other = random::setting(&mut run.rng, record.switches);
-        let wires = usize::from(record.rows + record.columns);
-        run.light(&record_bytes(&record), &cells, &other, wires);
+        let length = 2 * usize::from(record.rows + record.columns);
+        run.light(&record_bytes(&record), &cells, &other, length);
     }
 }

@@ -1,7 +1,8 @@
 -- `conduction::lighting::light` meets its contract: each `return` has the grounds that were tried before it.
-use mathlib.Core.Path.{refl}
+use mathlib.Core.Path.{refl, ap, _∙_}
 use native.Mathlib.Omega.{arith}
 use lib.ListN.{length}
+use Rattle.common.specs.Lists.{zeros}
 use Rattle.cells.proofs.Every.{held, broken}
 use Rattle.cells.specs.Record.{size}
 use Rattle.cells.proofs.Sizes.{sound-facts, setting-length}
@@ -9,9 +10,6 @@ use Rattle.conduction.proofs.Promise.{by-12, by-13, by-14, answers-refu
 use borrow.Author.Needs.{needs}
 use Rattle.conduction.proofs.lighting.light.Statement.{statement}
 use Rattle.conduction.proofs.lighting.light.Tie as tie
-
-clear-requires : tie.Need-clear-requires
-clear-requires c κs = search needs
 
 is-sound-requires : tie.Need-is-sound-requires
 is-sound-requires c κs = search needs
@@ -27,13 +25,13 @@ same-length c = search needs
 
 returns : tie.Need-returns
 returns c =
-    let tested = c .before .before in
-    let sounded = tested .before in
-    let cleared = sounded .before .before .before .clear in
-    let args = sounded .before .before .before .before .before .before .before .before .args in
-    answers-refused (args .x) (args .cells .now) (args .setting .now) (args .wires .now) (cleared .last .0) (c .refuse .result) 12
-    (by-12 (args .x) (args .cells .now) (args .setting .now) (length (args .wires .now)) (broken (sounded .is-sound .ensures) (c .before .if1 .taken)))
-    (c .refuse .ensures) (cleared .ensures)
+    let refused = c .before .before .refuse in
+    let then1 = c .before .before .before .before in
+    let sounded = then1 .before .before in
+    let args = sounded .before .before .before .before .args in
+    answers-refused (args .x) (args .cells .now) (args .setting .now) (args .firsts .now) _ _ 12
+    (by-12 (args .x) (args .cells .now) (args .setting .now) (length (args .firsts .now)) (broken (sounded .is-sound .ensures) (then1 .if1 .taken)))
+    (refused .ensures .0) (refused .ensures .1)
 
 refuse-requires-2 : tie.Need-refuse-requires-2
 refuse-requires-2 c κs = search needs
@@ -43,15 +41,16 @@ same-length-2 c = search needs
 
 returns-2 : tie.Need-returns-2
 returns-2 c =
-    let else1 = c .before .before in
+    let refused = c .before .before .refuse2 in
+    let then2 = c .before .before .before .before in
+    let else1 = then2 .before in
     let tested = else1 .before in
     let sounded = tested .before in
-    let cleared = sounded .before .before .before .clear in
-    let args = sounded .before .before .before .before .before .before .before .before .args in
-    answers-refused (args .x) (args .cells .now) (args .setting .now) (args .wires .now) (cleared .last .0) (c .refuse2 .result) 13
-    (by-13 (args .x) (args .cells .now) (args .setting .now) (length (args .wires .now)) (held (sounded .is-sound .ensures) (else1 .if1 .left))
-    (broken (tested .is-setting .ensures) (c .before .if2 .taken)))
-    (c .refuse2 .ensures) (cleared .ensures)
+    let args = sounded .before .before .before .before .args in
+    answers-refused (args .x) (args .cells .now) (args .setting .now) (args .firsts .now) _ _ 13
+    (by-13 (args .x) (args .cells .now) (args .setting .now) (length (args .firsts .now)) (held (sounded .is-sound .ensures) (else1 .if1 .left))
+    (broken (tested .is-setting .ensures) (then2 .if2 .taken)))
+    (refused .ensures .0) (refused .ensures .1)
 
 cast-m : tie.Need-cast-m
 cast-m c = search needs
@@ -70,25 +69,27 @@ same-length-3 c = search needs
 
 returns-3 : tie.Need-returns-3
 returns-3 c =
-    let else2 = c .before .before .before .before in
+    let refused = c .before .before .refuse3 in
+    let then3 = c .before .before .before .before in
+    let else2 = then3 .before .before .before in
     let else1 = else2 .before in
     let tested = else1 .before in
     let sounded = tested .before in
-    let cleared = sounded .before .before .before .clear in
-    let args = sounded .before .before .before .before .before .before .before .before .args in
-    answers-refused (args .x) (args .cells .now) (args .setting .now) (args .wires .now) (cleared .last .0) (c .refuse3 .result) 14
-    (by-14 (args .x) (args .cells .now) (args .setting .now) (length (args .wires .now)) (held (sounded .is-sound .ensures) (else1 .if1 .left)) (held (tested .is-setting .ensures) (else2 .if2 .left)) (omega (arith, c .before .if3 .taken, cleared .kept .0)))
-    (c .refuse3 .ensures) (cleared .ensures)
+    let args = sounded .before .before .before .before .args in
+    answers-refused (args .x) (args .cells .now) (args .setting .now) (args .firsts .now) _ _ 14
+    (by-14 (args .x) (args .cells .now) (args .setting .now) (length (args .firsts .now)) (held (sounded .is-sound .ensures) (else1 .if1 .left))
+    (held (tested .is-setting .ensures) (else2 .if2 .left)) (omega (arith, then3 .if3 .taken)))
+    (refused .ensures .0) (refused .ensures .1)
 
 light-wires-requires : tie.Need-light-wires-requires
 unfolding size
 light-wires-requires c κs =
-    let else2 = c .before .before .before .before in
+    let else3 = c .before in
+    let else2 = else3 .before .before .before in
     let else1 = else2 .before in
     let tested = else1 .before in
     let sounded = tested .before in
-    let cleared = sounded .before .before .before .clear in
-    let args = sounded .before .before .before .before .before .before .before .before .args in
+    let args = sounded .before .before .before .before .args in
     let has = sound-facts (args .x) (args .cells .now) (held (sounded .is-sound .ensures) (else1 .if1 .left)) in
     let fits = held (tested .is-setting .ensures) (else2 .if2 .left) in
     let long = setting-length (args .x .switches) (args .setting .now) fits in
@@ -100,7 +101,7 @@ light-wires-requires c κs =
       codes-fit = rw long (has .codes-low);
       switches-fit = rw long (has .sizes .switches-most);
       setting-fits = rw long fits;
-      wires-fit = c .before .if3 .left;
+      wires-fit = else3 .if3 .left;
     }
 
 add-if4 : tie.Need-add-if4
@@ -117,16 +118,19 @@ same-length-4 c = search needs
 
 returns-4 : tie.Need-returns-4
 returns-4 c =
-    let lit = c .before .before .before .before .light-wires in
-    let else3 = c .before .before .before .before .before .before in
+    let refused = c .before .before .refuse4 in
+    let then4 = c .before .before .before .before in
+    let lit = then4 .before .before .before .light-wires in
+    let else3 = then4 .before .before .before .before .before in
     let else2 = else3 .before .before .before in
     let else1 = else2 .before in
     let tested = else1 .before in
     let sounded = tested .before in
-    let cleared = sounded .before .before .before .clear in
-    let args = sounded .before .before .before .before .before .before .before .before .args in
-    answers-15 (args .x) (args .cells .now) (args .setting .now) (args .wires .now) (lit .last .1 .1 .1 .1 .0) (c .refuse4 .result) (lit .result) (cleared .last .0) (cleared .ensures) (held (sounded .is-sound .ensures) (else1 .if1 .left)) (held (tested .is-setting .ensures) (else2 .if2 .left))
-    (omega (arith, else3 .if3 .left, cleared .kept .0)) (lit .ensures) (c .before .if4 .taken) (c .refuse4 .ensures)
+    let args = sounded .before .before .before .before .args in
+    answers-15 (args .x) (args .cells .now) (args .setting .now) (args .firsts .now) _ _ (lit .result) (lit .last .1 .1 .1 .1 .0)
+    (held (sounded .is-sound .ensures) (else1 .if1 .left)) (held (tested .is-setting .ensures) (else2 .if2 .left))
+    (else3 .if3 .left) (lit .ensures) (then4 .if4 .taken) (refused .ensures .0)
+    (refused .ensures .1 ∙ ap zeros (lit .kept .1 .1 .1 .1 .0))
 
 same-length-5 : tie.Need-same-length-5
 same-length-5 c = search needs
@@ -139,16 +143,15 @@ returns-5 c =
     let else1 = else2 .before in
     let tested = else1 .before in
     let sounded = tested .before in
-    let cleared = sounded .before .before .before .clear in
-    let args = sounded .before .before .before .before .before .before .before .before .args in
-    answers-done (args .x) (args .cells .now) (args .setting .now) (args .wires .now) (lit .last .1 .1 .1 .1 .0) _ (lit .result) (cleared .last .0) (cleared .ensures) (held (sounded .is-sound .ensures) (else1 .if1 .left)) (held (tested .is-setting .ensures) (else2 .if2 .left))
-    (omega (arith, else3 .if3 .left, cleared .kept .0)) (lit .ensures) (c .if4 .left) refl
+    let args = sounded .before .before .before .before .args in
+    answers-done (args .x) (args .cells .now) (args .setting .now) (args .firsts .now) (lit .last .1 .1 .1 .1 .0) _ (lit .result) (lit .last .1 .1 .1 .1 .0)
+    (held (sounded .is-sound .ensures) (else1 .if1 .left)) (held (tested .is-setting .ensures) (else2 .if2 .left))
+    (else3 .if3 .left) (lit .ensures) (c .if4 .left) refl refl
 
 pub light-spec : {M : Type 1} → statement M
 light-spec =
     tie.close
     (tie.spec
-    clear-requires
     is-sound-requires
     is-setting-requires
     refuse-requires

@@ -9,19 +9,19 @@ spread-requires : tie.Need-spread-requires
 spread-requires c κs =
     let then1 = c .before .before in
     let start = then1 .before .before .before .before .before .before in
-    spread-across _ _ _ _ _ _ _ _ _ (start .pre .0 .0) (start .pre .1) (then1 .if1 .taken)
+    spread-across _ _ _ _ _ _ _ _ _ (start .pre .0 .0) (start .pre .1 .0) (then1 .if1 .taken)
 
 add-mark : tie.Need-add-mark
 add-mark c =
     let start = c .before .before .before .before .before .before .before .before .before .before .before .before .before in
-    omega (arith, stamp-fits _ _ _ _ _ _ _ _ _ (start .pre .0 .0) (start .pre .1) (start .pre .0 .1))
+    omega (arith, stamp-fits _ _ _ _ _ _ _ _ _ (start .pre .0 .0) (start .pre .1 .0) (start .pre .0 .1))
 
 mark-requires : tie.Need-mark-requires
 mark-requires c κs =
     let called = c .before .before .before .before in
     let then1 = called .before .before .before in
     let start = then1 .before .before .before .before .before .before in
-    mark-across _ _ _ _ _ _ _ _ _ (start .pre .0 .0) (start .pre .1) (then1 .if1 .taken) _ _ _ (called .spread .kept .1 .1 .1 .0) (called .spread .ensures)
+    mark-across _ _ _ _ _ _ _ _ _ (start .pre .0 .0) (start .pre .1 .0) (then1 .if1 .taken) _ _ _ (called .spread .kept .1 .1 .1 .0) (called .spread .ensures)
 
 same-length : tie.Need-same-length
 same-length c = search needs
@@ -38,26 +38,26 @@ returns c =
     let called = marked .before .before .before .before .before in
     let then1 = called .before .before .before in
     let start = then1 .before .before .before .before .before .before in
-    turn-across _ _ _ _ _ _ _ _ _ _ _ (start .pre .0 .0) (start .pre .1) (marked .mark .kept .0) _ (then1 .if1 .taken) (called .spread .kept .1 .1 .1 .0) (called .spread .ensures)
+    turn-across _ _ _ _ _ _ _ _ _ _ _ (start .pre .0 .0) (start .pre .1 .0) (start .pre .1 .1) (marked .mark .kept .0) _ (then1 .if1 .taken) (called .spread .kept .1 .1 .1 .0) (called .spread .ensures)
     (marked .mark .ensures)
 
 spread-requires-2 : tie.Need-spread-requires-2
 spread-requires-2 c κs =
     let else1 = c .before .before in
     let start = else1 .before .before .before .before .before .before in
-    spread-back _ _ _ _ _ _ _ _ _ (start .pre .0 .0) (start .pre .1) (else1 .if1 .left)
+    spread-back _ _ _ _ _ _ _ _ _ (start .pre .0 .0) (start .pre .1 .0) (else1 .if1 .left)
 
 add-mark-2 : tie.Need-add-mark-2
 add-mark-2 c =
     let start = c .before .before .before .before .before .before .before .before .before .before .before .before .before in
-    omega (arith, stamp-fits _ _ _ _ _ _ _ _ _ (start .pre .0 .0) (start .pre .1) (start .pre .0 .1))
+    omega (arith, stamp-fits _ _ _ _ _ _ _ _ _ (start .pre .0 .0) (start .pre .1 .0) (start .pre .0 .1))
 
 mark-requires-2 : tie.Need-mark-requires-2
 mark-requires-2 c κs =
     let called = c .before .before .before .before in
     let else1 = called .before .before .before in
     let start = else1 .before .before .before .before .before .before in
-    mark-back _ _ _ _ _ _ _ _ _ (start .pre .0 .0) (start .pre .1) (else1 .if1 .left) _ _ _ (called .spread2 .kept .1 .1 .1 .0) (called .spread2 .ensures)
+    mark-back _ _ _ _ _ _ _ _ _ (start .pre .0 .0) (start .pre .1 .0) (else1 .if1 .left) _ _ _ (called .spread2 .kept .1 .1 .1 .0) (called .spread2 .ensures)
 
 same-length-4 : tie.Need-same-length-4
 same-length-4 c = search needs
@@ -74,7 +74,7 @@ returns-2 c =
     let called = marked .before .before .before .before .before in
     let else1 = called .before .before .before in
     let start = else1 .before .before .before .before .before .before in
-    turn-back _ _ _ _ _ _ _ _ _ _ _ (start .pre .0 .0) (start .pre .1) (marked .mark2 .kept .0) _ (else1 .if1 .left) (called .spread2 .kept .1 .1 .1 .0) (called .spread2 .ensures)
+    turn-back _ _ _ _ _ _ _ _ _ _ _ (start .pre .0 .0) (start .pre .1 .0) (start .pre .1 .1) (marked .mark2 .kept .0) _ (else1 .if1 .left) (called .spread2 .kept .1 .1 .1 .0) (called .spread2 .ensures)
     (marked .mark2 .ensures)
 
 pub round-spec : {M : Type 1} → statement M

@@ -5,7 +5,7 @@ use native.Mathlib.Omega.{arith}
 use native.Mathlib.Nat.{le-trans, mul-le-mul-left, mul-le-mul-right}
 use lib.ListN.{length}
 use Rattle.common.specs.Limits.{maxRows, maxColumns}
-use Rattle.conduction.proofs.Counting.{Running, running-start, running-none, running-rest, running-on}
+use Rattle.conduction.proofs.Counting.{Running, running-start, running-so-far, running-none, running-rest, running-on}
 use Rattle.conduction.proofs.stamping.rounds.Statement.{statement}
 use Rattle.conduction.proofs.stamping.rounds.Tie as tie
 
@@ -61,14 +61,14 @@ loop-holds c =
     let lined-columns = c .before .before in
     let lined-rows = lined-columns .before .before .before .before in
     let start = lined-rows .before .before .before .before .before .before .before in
-    running-start _ _ _ _ _ _ _ _ _ _ (start .pre .0) (start .pre .1) refl refl refl (lined-rows .line-up .ensures) (lined-columns .line-up2 .ensures)
-    (lined-rows .line-up .kept .0) (lined-columns .line-up2 .kept .0) (start .pre .2)
+    running-start _ _ _ _ _ _ _ _ _ _ (start .pre .0) (start .pre .0 .row-0) refl refl refl (lined-rows .line-up .ensures) (lined-columns .line-up2 .ensures)
+    (lined-rows .line-up .kept .0) (lined-columns .line-up2 .kept .0) (start .pre .1)
 
 round-requires : tie.Need-round-requires Inv-loop μ-loop
 round-requires c κs =
     let else1 = c .before .before .before in
     let running = else1 .before .loop .inv in
-    ((running .fits, omega (arith, running .long-rows, running .long-columns, else1 .if1 .left)), running .standing)
+    ((running .fits, omega (arith, running .long-rows, running .long-columns, else1 .if1 .left)), (running .standing, running-so-far _ _ _ _ _ _ _ _ _ _ _ _ running))
 
 add-t : tie.Need-add-t Inv-loop μ-loop
 unfolding maxRows maxColumns

@@ -10,7 +10,7 @@ returns c =
     let a = c .before .before .before .before .before .before .before .before .before .before .before .before .before .before .before .before .args in
     let head = c .before .before .before .before .before .before .before .before .before .before .before .before .write-rounds .ensures in
     let body = c .before .before .before .before .before .before .write-reads .ensures in
-    written-as (readings-parts (a .x) (record { count = a .rounds; wires = a .wires .now })) (written-then (written-then head body) (c .before .before .write-end .ensures))
+    written-as (readings-parts (a .x) (record { count = a .rounds; firsts = a .firsts .now })) (written-then (written-then head body) (c .before .before .write-end .ensures))
 
 pub write-readings-spec : {M : Type 1} → statement M
 write-readings-spec =

@@ -10,23 +10,23 @@ use Rattle.programs.proofs.readings.write_reads.Statement.{statement}
 use Rattle.programs.proofs.readings.write_reads.Tie as tie
 
 abbrev Inv-loop : tie.InvT-loop
-Inv-loop out₀ at k wires outs next₀ j₀ out next j = Going out₀ at (readsText wires outs 0 k) out next (readsText wires outs j k) × (j ≤ k)
+Inv-loop out₀ at k firsts outs next₀ j₀ out next j = Going out₀ at (readsText firsts outs 0 k) out next (readsText firsts outs j k) × (j ≤ k)
 
 abbrev μ-loop : tie.MeasureT-loop
-μ-loop out₀ at k wires outs next₀ j₀ out next j = k - j
+μ-loop out₀ at k firsts outs next₀ j₀ out next j = k - j
 
 loop-holds : tie.Need-loop-holds Inv-loop μ-loop
 loop-holds c =
     let a = c .before .before .args in
     (going-start (a .out .now) (a .at) _, omega arith)
 
-mul-wire-at : tie.Need-mul-wire-at Inv-loop μ-loop
+mul-reading : tie.Need-mul-reading Inv-loop μ-loop
 unfolding maxOutputs
-mul-wire-at c = omega arith
+mul-reading c = omega arith
 
-array-read-wire-at : tie.Need-array-read-wire-at Inv-loop μ-loop
+array-read-reading : tie.Need-array-read-reading Inv-loop μ-loop
 unfolding maxOutputs
-array-read-wire-at c = omega arith
+array-read-reading c = omega arith
 
 cast-write-read : tie.Need-cast-write-read Inv-loop μ-loop
 unfolding maxOutputs
@@ -37,14 +37,14 @@ unfolding maxOutputs
 loop-again c =
     let l = c .before .before .before .before .before .before in
     let a = l .before .before .before .args in
-    let more = reads-text-more (a .wires .now) (a .t3) (l .loop .j) (a .k) (omega arith) (omega arith) in
-    (going-part (l .loop .inv .0) (rw (← (c .before .before .before .before .wire-at .ensures)) at more) (c .before .before .write-read .ensures), omega arith)
+    let more = reads-text-more (a .firsts .now) (a .t3) (l .loop .j) (a .k) (omega arith) (omega arith) in
+    (going-part (l .loop .inv .0) (rw (← (c .before .before .before .before .reading .ensures)) at more) (c .before .before .write-read .ensures), omega arith)
 
 returns : tie.Need-returns Inv-loop μ-loop
 returns c =
     let l = c .before in
     let a = c .before .before .before .before .args in
-    going-end (l .loop .inv .0) (reads-text-none (a .wires .now) (a .t3) _ _ (omega arith))
+    going-end (l .loop .inv .0) (reads-text-none (a .firsts .now) (a .t3) _ _ (omega arith))
 
 pub write-reads-spec : {M : Type 1} → statement M
 write-reads-spec =
@@ -53,12 +53,11 @@ write-reads-spec =
     Inv-loop
     μ-loop
     loop-holds
-    mul-wire-at
-    array-read-wire-at
+    mul-reading
+    array-read-reading
     (λ c. search needs)
     (λ c κs. search needs)
     cast-write-read
-    (λ c. search needs)
     (λ c κs. search needs)
     (λ c. omega arith)
     (λ c. omega arith)
