@@ -31,7 +31,7 @@ static const char half_adder[] =
 static uint8_t text[MAX_TEXT];
 static uint8_t record[CROSSBAR_RECORD_BYTES];
 static uint8_t cells[CROSSBAR_MAX_CELLS];
-static uint8_t first_rounds[CROSSBAR_MAX_FIRST_ROUNDS];
+static uint8_t first_rounds[CROSSBAR_MAX_FIRST_ROUNDS_BYTES];
 static uint8_t listing[CROSSBAR_MAX_LISTING];
 
 /* Says why a call was refused. */
@@ -61,7 +61,10 @@ static int read_job(const char *name, size_t *length)
     return 0;
 }
 
-/* Lights the crossbar under one setting: a line for each output. Counts the readings that are not the diagram's value. */
+/*
+ * Lights the crossbar under one setting: a line for each output. Raises each output's latest first round, and counts the readings that
+ * are not the diagram's value.
+ */
 static int show(size_t length, const uint8_t *setting, unsigned *latest, unsigned *wrong)
 {
     unsigned switches = crossbar_switches(record), output, i;

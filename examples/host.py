@@ -12,7 +12,7 @@ import sys
 
 RECORD_BYTES = 72
 MAX_CELLS = 128 * 128
-MAX_FIRST_ROUNDS = 2 * (128 + 128)
+MAX_FIRST_ROUNDS_BYTES = 2 * (128 + 128)
 
 # The most switches for which every setting is tried.
 MAX_TRIED = 16
@@ -54,7 +54,7 @@ def show(lib, job):
     """Prints a line for each setting. Is every reading the walk's value?"""
     record = ctypes.create_string_buffer(RECORD_BYTES)
     cells = ctypes.create_string_buffer(MAX_CELLS)
-    first_rounds = ctypes.create_string_buffer(MAX_FIRST_ROUNDS)
+    first_rounds = ctypes.create_string_buffer(MAX_FIRST_ROUNDS_BYTES)
     value("map", lib.crossbar_map(*given(job), *lent(record), *lent(cells)))
     switches, outputs = number_at(record, 2), number_at(record, 3)
     if switches > MAX_TRIED:
@@ -65,7 +65,7 @@ def show(lib, job):
         firsts = [number_at(first_rounds, number_at(record, 4 + j)) for j in range(outputs)]
         reads = [int(first != 0) for first in firsts]
         walks = [value("walk", lib.crossbar_walk(*given(job), *given(setting), ctypes.c_uint32(j))) for j in range(outputs)]
-        print("setting", *setting, "rounds", rounds, "reads", *reads, "walks", *walks, "first rounds", *firsts)
+        print("setting", *setting, "rounds", rounds, "reads", *reads, "walks", *walks, "first lit", *(first - 1 if first else "-" for first in firsts))
         same = same and reads == walks
     return same
 

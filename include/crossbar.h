@@ -46,7 +46,7 @@ extern "C" {
 /* Sizes that are always enough for a slice, in bytes. A record takes CROSSBAR_RECORD_BYTES. */
 #define CROSSBAR_RECORD_BYTES 72
 #define CROSSBAR_MAX_CELLS (CROSSBAR_MAX_ROWS * CROSSBAR_MAX_COLUMNS)
-#define CROSSBAR_MAX_FIRST_ROUNDS (2 * (CROSSBAR_MAX_ROWS + CROSSBAR_MAX_COLUMNS))
+#define CROSSBAR_MAX_FIRST_ROUNDS_BYTES (2 * (CROSSBAR_MAX_ROWS + CROSSBAR_MAX_COLUMNS))
 #define CROSSBAR_MAX_LISTING 393728
 #define CROSSBAR_STACK 24576
 
@@ -119,10 +119,13 @@ uint64_t crossbar_load(const uint8_t *text, size_t text_length,
                        uint8_t *record, size_t record_length,
                        uint8_t *cells, size_t cells_length);
 
-/* A number of a record: 0 rows, 1 columns, 2 switches, 3 outputs, 4 + j the row of output j. */
-static inline unsigned crossbar_number_at(const uint8_t *record, unsigned place)
+/*
+ * The number at a place of a record or of first rounds, two bytes a number, low byte first. In a record: 0 rows, 1 columns, 2 switches,
+ * 3 outputs, 4 + j the row of output j. In first rounds: r row r, R + c column c.
+ */
+static inline unsigned crossbar_number_at(const uint8_t *bytes, unsigned place)
 {
-    return record[2 * place] + 256u * record[2 * place + 1];
+    return bytes[2 * place] + 256u * bytes[2 * place + 1];
 }
 
 static inline void crossbar_put_number(uint8_t *record, unsigned place, unsigned number)
@@ -203,8 +206,8 @@ static inline int crossbar_passes_at_one(uint8_t code)
 }
 
 /*
- * What light gave: a row's or a column's first round, 0 if it is dark, otherwise 1 plus the round in which it was first lit. The bytes
- * of these numbers are those of a record's numbers.
+ * What light gave: a row's or a column's first round, 0 if it is dark, otherwise 1 plus the round in which it was first lit. The round
+ * is the number less 1.
  */
 static inline unsigned crossbar_row_first_round(const uint8_t *first_rounds, unsigned row)
 {

@@ -31,7 +31,7 @@ struct drawing {
     const char *title;
     int known; /* is there a setting? */
     unsigned rounds;
-    uint8_t first_rounds[CROSSBAR_MAX_FIRST_ROUNDS];
+    uint8_t first_rounds[CROSSBAR_MAX_FIRST_ROUNDS_BYTES];
 };
 
 /* Where a row or a column stands. */

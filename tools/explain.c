@@ -54,7 +54,7 @@ static const struct ground grounds[] = {
      "Give one figure 0 or 1 for each of the V switches, switch 0 first, and an output number from 0 to K - 1."},
     {"An output buffer is shorter than the answer. In the two programs: the input is longer than 65,535 bytes.", "0",
      "map, light, print, load; the two programs",
-     "From C, lend CROSSBAR_RECORD_BYTES for a record and CROSSBAR_MAX_CELLS, CROSSBAR_MAX_FIRST_ROUNDS and CROSSBAR_MAX_LISTING for "
+     "From C, lend CROSSBAR_RECORD_BYTES for a record and CROSSBAR_MAX_CELLS, CROSSBAR_MAX_FIRST_ROUNDS_BYTES and CROSSBAR_MAX_LISTING for "
      "the rest, which is always enough. With the two programs: no accepted job is that long, so look for what else is in the file; for "
      "a longer listing take the command crossbar or the C calls."},
     {"After R + C - 1 rounds a further round would still add a wire.", "0", "light",

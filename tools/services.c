@@ -114,7 +114,7 @@ static void say_when(unsigned first_round)
     if (first_round == 1)
         printf("lit before round 1");
     else
-        printf("lit in round %u", first_round - 1);
+        printf("first lit in round %u", first_round - 1);
 }
 
 /* A line with the wires that have this first round: one at least, since every round lights a wire. */
@@ -161,7 +161,7 @@ int run_light(const struct request *request)
     struct text text;
     struct crossbar crossbar;
     struct setting setting;
-    uint8_t first_rounds[CROSSBAR_MAX_FIRST_ROUNDS];
+    uint8_t first_rounds[CROSSBAR_MAX_FIRST_ROUNDS_BYTES];
     uint64_t answer;
     int status = read_setting(request, &setting);
 

@@ -54,7 +54,7 @@ static int print_line(struct work *work)
 {
     const uint8_t *record = work->crossbar.record;
     const struct setting *setting = &work->setting;
-    uint8_t first_rounds[CROSSBAR_MAX_FIRST_ROUNDS];
+    uint8_t first_rounds[CROSSBAR_MAX_FIRST_ROUNDS_BYTES];
     uint64_t walked, answer = crossbar_light(record, CROSSBAR_RECORD_BYTES, work->crossbar.cells, sizeof work->crossbar.cells,
                                              setting->bytes, setting->length, first_rounds, sizeof first_rounds);
     unsigned i, reads;

@@ -17,7 +17,7 @@ typedef char max_nodes[CROSSBAR_MAX_NODES == 254 ? 1 : -1];
 typedef char max_outputs[CROSSBAR_MAX_OUTPUTS == 32 ? 1 : -1];
 typedef char max_cells[CROSSBAR_MAX_CELLS == 16384 ? 1 : -1];
 typedef char max_listing[CROSSBAR_MAX_LISTING == 393728 ? 1 : -1];
-typedef char max_first_rounds[CROSSBAR_MAX_FIRST_ROUNDS == 512 ? 1 : -1];
+typedef char max_first_rounds[CROSSBAR_MAX_FIRST_ROUNDS_BYTES == 512 ? 1 : -1];
 typedef char last_number[CROSSBAR_LAST_NUMBER == CROSSBAR_UNSETTLED ? 1 : -1];
 
 /* The numbers of document 01, in its order. */
@@ -154,16 +154,16 @@ static int numbers_of_stair(const uint8_t *record, const uint8_t *first_rounds)
     for (i = 0; i < CROSSBAR_MAX_ROWS; i++)
         if (!crossbar_row_lit(first_rounds, i) || !crossbar_column_lit(record, first_rounds, i))
             return 0;
-    return first_rounds[CROSSBAR_MAX_FIRST_ROUNDS - 2] == 0 && first_rounds[CROSSBAR_MAX_FIRST_ROUNDS - 1] == 1;
+    return first_rounds[CROSSBAR_MAX_FIRST_ROUNDS_BYTES - 2] == 0 && first_rounds[CROSSBAR_MAX_FIRST_ROUNDS_BYTES - 1] == 1;
 }
 
 /*
- * CROSSBAR_MAX_FIRST_ROUNDS bytes are enough for the largest crossbar, and one byte less is 14 and leaves zeros. Bytes past the answer
+ * CROSSBAR_MAX_FIRST_ROUNDS_BYTES bytes are enough for the largest crossbar, and one byte less is 14 and leaves zeros. Bytes past the answer
  * are 0, an odd last one too. The slice held other bytes before, and the byte after it stays.
  */
 static int enough_for_first_rounds(void)
 {
-    enum { MOST = CROSSBAR_MAX_FIRST_ROUNDS };
+    enum { MOST = CROSSBAR_MAX_FIRST_ROUNDS_BYTES };
     uint8_t record[CROSSBAR_RECORD_BYTES], first_rounds[MOST + 4];
     size_t length, i;
     uint64_t answer;

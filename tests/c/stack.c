@@ -18,7 +18,7 @@ static ucontext_t here, there;
 static uint8_t text[65536], listing[CROSSBAR_MAX_LISTING];
 static uint8_t record[CROSSBAR_RECORD_BYTES], full_record[CROSSBAR_RECORD_BYTES], out_record[CROSSBAR_RECORD_BYTES];
 static uint8_t cells[CROSSBAR_MAX_CELLS], full[CROSSBAR_MAX_CELLS], stair[CROSSBAR_MAX_CELLS], out_cells[CROSSBAR_MAX_CELLS];
-static uint8_t first_rounds[CROSSBAR_MAX_FIRST_ROUNDS], setting[CROSSBAR_MAX_SWITCHES];
+static uint8_t first_rounds[CROSSBAR_MAX_FIRST_ROUNDS_BYTES], setting[CROSSBAR_MAX_SWITCHES];
 static size_t text_length, listing_length;
 static uint64_t answer;
 

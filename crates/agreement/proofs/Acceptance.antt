@@ -1,15 +1,15 @@
 -- Each call refuses nothing exactly where what it is handed meets none of its grounds.
-use Prim.Native.Nat.{ℕ, _/_, _+_, _≤_}
+use Prim.Native.Nat.{ℕ, _+_, _*_, _/_, _≤_, _<_}
 use mathlib.Core.Path.{_≡_, sym, ap, _∙_}
-use mathlib.Core.Logic.{_↔_, Iff·trans}
+use mathlib.Core.Logic.{⊎-elim, _↔_, Iff·trans}
 use mathlib.Core.Bool.{true, not, _&&_}
 use mathlib.Core.List.{List, []}
 use native.Mathlib.Omega.{arith}
 use lib.ListN.{length, take}
 use lib.Dec.{ltb}
 use borrow.Author.Tests.{ltb-true, ltb-false, not-false}
-use Rattle.common.specs.Outcome.{Outcome, done}
-use Rattle.common.proofs.Lists.{and-left, and-right}
+use Rattle.common.specs.Outcome.{Outcome, done, numberOf}
+use Rattle.common.proofs.Lists.{below-or-not, and-left, and-right}
 use Rattle.common.proofs.Outcome.{then-done, unless-done, not-met, others}
 use Rattle.cells.specs.Record.{size, sound}
 use Rattle.cells.specs.Setting.{isSetting}
@@ -17,6 +17,7 @@ use Rattle.jobs.specs.Job.{accepted, walk}
 use Rattle.jobs.proofs.Text.{one-text}
 use Rattle.conduction.specs.Light.{light, litBy}
 use Rattle.conduction.proofs.Light.{light-accepts}
+use Rattle.conduction.proofs.Promise.{by-14}
 use Rattle.listings.specs.Listing.{listing, print}
 use Rattle.listings.specs.Loading.{load}
 use Rattle.listings.proofs.Loaded.{load-done, loaded-text, loaded-outs}
@@ -100,6 +101,26 @@ light-done head cells setting room = (
       (litBy x cells setting, one-held head _ (given .holds) ∙ light-accepts x cells setting (room / 2) (given .right) (given .set) (omega (arith, given .firsts-room)))),
 )
 
+light-short :
+    (head cells setting : List ℕ) (room : ℕ) → holdsRecord head ≡ true → sound (recordFrom head) cells ≡ true
+    → isSetting (recordFrom head .switches) setting ≡ true
+    → (numberOf (hostLight head cells setting room) ≡ 14) ↔ (room < 2 * (recordFrom head .rows + recordFrom head .columns))
+unfolding hostLight numberOf
+light-short head cells setting room holds right set =
+    let x = recordFrom head in
+    let w = x .rows + x .columns in
+    let is = one-held head (light x cells setting (room / 2)) holds in (
+      (λ e.
+          ⊎-elim
+          (λ (h : room < 2 * w). h)
+          (λ (h : 2 * w ≤ room).
+          let none : numberOf (hostLight head cells setting room) ≡ 0 =
+          ap numberOf (is ∙ light-accepts x cells setting (room / 2) right set (omega arith)) in
+          absurd (omega (arith, e, none)))
+          (below-or-not room (2 * w))),
+      (λ h. ap numberOf (is ∙ by-14 x cells setting (room / 2) right set (omega arith))),
+    )
+
 print-done : (head cells : List ℕ) (room : ℕ) → Done (hostPrint head cells room) ↔ Printable head cells room
 unfolding hostPrint print
 print-done head cells room = (
@@ -159,6 +180,10 @@ calls-accept =
           λ head cells setting firsts₀ answer firsts kept.
           let room = length firsts₀ in
           rw (kept .answer) (Iff·trans (calls-read .of-light head cells setting room .none-refused) (light-done head cells setting room));
+      light-short =
+          λ head cells setting firsts₀ answer firsts kept holds right set.
+          let room = length firsts₀ in
+          rw (kept .answer, calls-read .of-light head cells setting room .number) (light-short head cells setting room holds right set);
       print =
           λ head cells text₀ answer text kept.
           let room = length text₀ in

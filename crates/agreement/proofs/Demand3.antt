@@ -47,7 +47,7 @@ tells b P bits e = (
 )
 
 -- a number that is not 0 exactly when a statement holds shows whether it holds
-shows : (n : ℕ) (P : Type 0) → (n ≡ 0 → ⊥) ↔ P → Shows n P
+pub shows : (n : ℕ) (P : Type 0) → (n ≡ 0 → ⊥) ↔ P → Shows n P
 shows n P e = (
   e,
   (

@@ -71,6 +71,14 @@ pub record CallsAccept : Type 0 where
       (head cells setting firsts₀ : List ℕ) (answer : ℕ) (firsts : List ℕ)
       → LightCall head cells setting firsts₀ answer firsts
       → (numberPart answer ≡ 0) ↔ Lightable head cells setting (length firsts₀)
+  -- and past grounds 12 and 13 it gives 14 exactly where the buffer has fewer than 2·(R + C) bytes
+  pub light-short :
+      (head cells setting firsts₀ : List ℕ) (answer : ℕ) (firsts : List ℕ)
+      → LightCall head cells setting firsts₀ answer firsts
+      → holdsRecord head ≡ true
+      → sound (recordFrom head) cells ≡ true
+      → isSetting (recordFrom head .switches) setting ≡ true
+      → (numberPart answer ≡ 14) ↔ (length firsts₀ < 2 * (recordFrom head .rows + recordFrom head .columns))
   pub print :
       (head cells text₀ : List ℕ) (answer : ℕ) (text : List ℕ)
       → PrintCall head cells text₀ answer text

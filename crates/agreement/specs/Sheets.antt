@@ -27,7 +27,7 @@ numbers o = valueOf [] (λ w. w .head .rows ∷ w .head .columns ∷ w .codes ++
 unfoldable pub refusal : Outcome Whole → List ℕ
 refusal o = numberOf o ∷ lineOf o ∷ []
 
--- the rounds and the first rounds of a crossbar's wires under a setting
+-- the count of rounds and the first rounds of a crossbar's wires under a setting
 unfoldable pub lamp : List ℕ → Outcome Whole → List ℕ
 lamp setting o =
     valueOf [] (λ w. valueOf [] (λ a. a .count ∷ a .firsts) (light (w .head) (w .codes) setting (maxRows + maxColumns))) o

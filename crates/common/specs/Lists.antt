@@ -14,7 +14,7 @@ bit false = 0
 abbrev pub zeros : ℕ → List ℕ
 zeros n = replicate {A = ℕ} n 0
 
--- s, and zeros up to n bytes
+-- s, and zeros up to n entries
 unfoldable pub padded : ℕ → List ℕ → List ℕ
 padded n s = s ++ zeros (n - length s)
 

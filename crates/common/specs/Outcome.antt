@@ -56,13 +56,13 @@ unfoldable pub valueOf : {A B : Type 0} → B → (A → B) → Outcome A → B
 valueOf otherwise f (done a) = f a
 valueOf otherwise f (refused k l) = otherwise
 
--- an output buffer of n bytes: the answer's bytes and zeros past them, or zeros in the whole of it
+-- an output buffer of n entries, which are bytes or 16-bit numbers: the answer's entries and zeros past them, or zeros in the whole of it
 unfoldable pub bufferOf : {A : Type 0} → ℕ → (A → List ℕ) → Outcome A → List ℕ
 bufferOf n f (done a) = padded n (f a)
 bufferOf n f (refused k l) = zeros n
 
--- what a call promises of its outcome o: its answer r, which is what it hands over for that outcome, and every byte of the buffer of
--- `room` bytes that is lent to it, by what the buffer holds after the call
-pub record Answered {A B : Type 0} (o : Outcome A) (handed : Outcome A → B) (bytes : A → List ℕ) (room : ℕ) (r : B) (after : List ℕ) : Type 0 where
+-- what a call promises of its outcome o: its answer r, which is what it hands over for that outcome, and every entry of the buffer of
+-- `room` entries that is lent to it, by what the buffer holds after the call
+pub record Answered {A B : Type 0} (o : Outcome A) (handed : Outcome A → B) (entries : A → List ℕ) (room : ℕ) (r : B) (after : List ℕ) : Type 0 where
   pub answer : r ≡ handed o
-  pub buffer : after ≡ bufferOf room bytes o
+  pub buffer : after ≡ bufferOf room entries o

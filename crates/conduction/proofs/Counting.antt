@@ -13,13 +13,13 @@ use borrow.Author.Tests.{not-true, not-false, lt-ltb, le-ltb}
 use Rattle.common.specs.Limits.{maxRows, maxColumns}
 use Rattle.common.specs.Lists.{tab}
 use Rattle.common.proofs.Lists.{at-or-below, below-or-not, equal-or-not, not-zero, length-tab, getD-tab}
-use Rattle.conduction.specs.Round.{atRest, isNew}
-use Rattle.conduction.specs.First.{stampsAfter, Rounded, Counted}
-use Rattle.conduction.specs.Wires.{unit, placeOf, wireOf, inOrder, passing, Sided, Standing, Fits, Turned}
+use Rattle.conduction.specs.Round.{atRest, isNew, Rounded}
+use Rattle.conduction.specs.Stamps.{stampsAfter, Counted}
+use Rattle.conduction.specs.Wires.{unit, placeOf, wireOf, inOrder, passing, Sided, Standing, Fits}
 use Rattle.conduction.proofs.First.{first-most}
 use Rattle.conduction.proofs.Stamps.{stamps-entry, stamps-next, stamps-rest, start-one, start-none}
 use Rattle.conduction.proofs.Turns.{place-wire}
-use Rattle.conduction.proofs.Crossing.{row-small, column-small}
+use Rattle.conduction.proofs.Crossing.{Turned, row-small, column-small}
 
 -- t rounds were run, and each added a wire
 pub record Going (m n : ℕ) (joined : ℕ → ℕ → Bool) (k t : ℕ) (stamps : List ℕ) : Type 0 where
@@ -43,7 +43,7 @@ module _ (m n : ℕ) (joined : ℕ → ℕ → Bool) (k : ℕ) (row-0 : 0 < m) (
     module _ (after : List ℕ) (added : Bool) (ran : Rounded m n joined t stamps after added) where
       after-is : after ≡ stampsAfter k m n joined (suc t)
       after-is =
-          ran .stamps
+          ran .new-wires
           ∙ ap (λ (s : List ℕ). tab (length s) (λ v. elim (isNew m n joined t v) [ true ↦ t + 2 | false ↦ getD s v 0 ])) (going .so-far)
           ∙ stamps-next m n joined k t room
 

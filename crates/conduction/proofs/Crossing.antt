@@ -14,8 +14,8 @@ use borrow.Author.Tests.{lt-ltb, le-ltb}
 use Rattle.common.specs.Limits.{maxRows, maxColumns}
 use Rattle.common.specs.Lists.{tab}
 use Rattle.common.proofs.Lists.{by-test, below-or-not, equal-or-not, not-zero, length-tab, getD-tab, within-grid}
-use Rattle.conduction.specs.Round.{atRest, isNew, firstRound}
-use Rattle.conduction.specs.First.{stampsAfter, Rounded}
+use Rattle.conduction.specs.Round.{atRest, isNew, firstRound, Rounded}
+use Rattle.conduction.specs.Stamps.{stampsAfter}
 use Rattle.conduction.specs.Wires.{
   unit,
   placeOf,
@@ -32,7 +32,6 @@ use Rattle.conduction.specs.Wires.{
   TurnReady,
   Standing,
   Fits,
-  Turned,
 }
 use Rattle.conduction.proofs.First.{first-most, rest-none-new, none-new-rest}
 use Rattle.conduction.proofs.Stamps.{meets, stamp, reached, meets-across, meets-back, meets-is, Across, stamps-entry, stamp-is-new}
@@ -47,6 +46,12 @@ use Rattle.conduction.proofs.Turns.{
   turned-none,
   turned-some,
 }
+
+-- what a round does: the stamps after it, whether it added a wire, and that the next round can follow. The wires that it added stand from
+-- `dark` up to `end`.
+pub record Turned (on cells rows columns stamps rows′ columns′ stamps′ : List ℕ) (t tail dark end : ℕ) : Type 0 where
+  pub rounded : Rounded (length rows) (length columns) (passing on cells (length columns)) t stamps stamps′ (ltb dark end)
+  pub standing : Standing rows′ columns′ stamps′ (t + 1) dark end tail
 
 -- what a round does to the stamps, from their entries, where they were the first rounds so far
 rounded-by :
@@ -65,7 +70,7 @@ rounded-by m n joined t dark end stamps stamps′ so-far long order entries none
     let old : (v : ℕ) → isNew m n joined t v ≡ false → getD stamps′ v 0 ≡ getD stamps v 0 = λ v e. newly v ∙ rw e in
     let new : (v : ℕ) → isNew m n joined t v ≡ true → getD stamps′ v 0 ≡ t + 2 = λ v e. newly v ∙ rw e in
     record {
-      stamps =
+      new-wires =
           ext-getD 0 stamps′ (tab (length stamps) f) (long ∙ sym (length-tab (length stamps) f))
           (λ v h. newly v ∙ sym (getD-tab (length stamps) f v 0 (omega arith)));
       adds =

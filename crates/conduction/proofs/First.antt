@@ -25,7 +25,7 @@ use Rattle.common.proofs.Lists.{
   some-below-at,
   some-below-is,
 }
-use Rattle.conduction.specs.Round.{lit, rounds, atRest, isNew, firstLit, firstRound, firstRounds}
+use Rattle.conduction.specs.Round.{lit, rounds, atRest, isNew, firstAmong, firstRound, firstRounds}
 use Rattle.conduction.specs.Lit.{FirstLitIn}
 use Rattle.conduction.proofs.Rounds.{lit-one, one-lit, length-rounds, rounds-bits, rounds-same, kept, rest-same, same-rest}
 
@@ -66,25 +66,25 @@ module _ (m n : ℕ) (joined : ℕ → ℕ → Bool) where
 
   -- what the search among k sets from t on finds
   record Found (w k t s : ℕ) : Type 0 where
-    is : firstLit m n joined w k t ≡ 1 + s
+    is : firstAmong m n joined w k t ≡ 1 + s
     from : t ≤ s
     below : s < t + k
     then-lit : lit (rounds m n joined s) w ≡ true
     none : (u : ℕ) → t ≤ u → u < s → lit (rounds m n joined u) w ≡ false
 
   record Missed (w k t : ℕ) : Type 0 where
-    is : firstLit m n joined w k t ≡ 0
+    is : firstAmong m n joined w k t ≡ 0
     none : (u : ℕ) → t ≤ u → u < t + k → lit (rounds m n joined u) w ≡ false
 
   search-ends : (w k t : ℕ) → Missed w k t ⊎ ((s : ℕ) × Found w k t s)
-  unfolding firstLit
+  unfolding firstAmong
   search-ends w zero t = inl (record { is = refl; none = λ u h l. absurd (omega arith) })
   search-ends w (suc k) t =
       ⊎-elim
       (λ (p : lit (rounds m n joined t) w ≡ true).
       inr (
         t,
-        record { is = rw (p, firstLit); from = omega arith; below = omega arith; then-lit = p; none = λ u h l. absurd (omega arith) },
+        record { is = rw (p, firstAmong); from = omega arith; below = omega arith; then-lit = p; none = λ u h l. absurd (omega arith) },
       ))
       (λ (p : lit (rounds m n joined t) w ≡ false).
       let at-first : (u : ℕ) → u ≡ t → lit (rounds m n joined u) w ≡ false = λ u e. rw e p in
@@ -92,7 +92,7 @@ module _ (m n : ℕ) (joined : ℕ → ℕ → Bool) where
       (λ (missed : Missed w k (suc t)).
       inl
       (record {
-        is = rw (p, firstLit) (missed .is);
+        is = rw (p, firstAmong) (missed .is);
         none =
             λ u h l.
             ⊎-elim (λ (q : t < u). missed .none u (omega arith) (omega arith)) (λ (q : u ≤ t). at-first u (omega arith)) (below-or-not t u);
@@ -101,7 +101,7 @@ module _ (m n : ℕ) (joined : ℕ → ℕ → Bool) where
       inr (
         found .0,
         record {
-          is = rw (p, firstLit) (found .1 .is);
+          is = rw (p, firstAmong) (found .1 .is);
           from = omega (arith, found .1 .from);
           below = omega (arith, found .1 .below);
           then-lit = found .1 .then-lit;
@@ -319,11 +319,11 @@ module _ (m n : ℕ) (joined : ℕ → ℕ → Bool) where
 
 -- they hang on the cells of the crossbar alone
 module _ (m n : ℕ) (joined joined′ : ℕ → ℕ → Bool) (agree : (r c : ℕ) → r < m → c < n → joined r c ≡ joined′ r c) where
-  searched-same : (w k t : ℕ) → firstLit m n joined w k t ≡ firstLit m n joined′ w k t
-  unfolding firstLit
+  searched-same : (w k t : ℕ) → firstAmong m n joined w k t ≡ firstAmong m n joined′ w k t
+  unfolding firstAmong
   searched-same w zero t = refl
   searched-same w (suc k) t =
-      ap (λ (set : List ℕ). elim (lit set w) [ true ↦ 1 + t | false ↦ firstLit m n joined w k (suc t) ]) (rounds-same m n joined joined′ agree t)
+      ap (λ (set : List ℕ). elim (lit set w) [ true ↦ 1 + t | false ↦ firstAmong m n joined w k (suc t) ]) (rounds-same m n joined joined′ agree t)
       ∙ ap (λ (later : ℕ). elim (lit (rounds m n joined′ t) w) [ true ↦ 1 + t | false ↦ later ]) (searched-same w k (suc t))
 
   pub firsts-same : (t : ℕ) → firstRounds m n joined t ≡ firstRounds m n joined′ t

@@ -133,6 +133,7 @@ pub rounds-answer :
 rounds-answer m n j a h counts firsts =
     let count = a .count in
     let rest : atRest m n j count ≡ true = rw counts (count-settled m n j h) in
+    let at-most : count ≤ m + n - 1 = rw counts (count-at-most m n j) in
     let least : (t : ℕ) → t < count → atRest m n j t ≡ false = rw counts (count-least m n j) in
     let entry : (w : ℕ) → getD (a .firsts) w 0 ≡ firstRound m n j count w =
     λ w. ap (λ (l : List ℕ). getD l w 0) firsts ∙ firsts-entry m n j count w in
@@ -140,13 +141,14 @@ rounds-answer m n j a h counts firsts =
     record {
       rests = rest;
       least = least;
-      at-most = rw counts (count-at-most m n j);
+      at-most = at-most;
       size = rw firsts (length-firsts m n j count);
       dark = λ i. rw (entry i) (number-dark m n j h count rest i);
       first = λ i t. rw (entry i) (number-first m n j h count rest i t);
       row-0 = entry 0 ∙ first-is m n j count 0 0 (omega arith) (start-first m n j h);
       chains = λ w k. rw (entry (place m w)) (number-chain m n j h count rest w k);
       shortest = λ w t k. rw (entry (place m w)) (number-cells m n j h count rest w t k);
+      most = λ i. rw (entry i) (omega (arith, first-most m n j count i, at-most));
       none-larger = λ i. rw (entry i) (first-most m n j count i);
       largest = (last .0, last .1, entry (place m (last .0)) ∙ last .2);
     }

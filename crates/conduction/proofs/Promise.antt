@@ -20,7 +20,7 @@ use Rattle.cells.specs.Record.{sound}
 use Rattle.cells.specs.Setting.{isSetting}
 use Rattle.conduction.specs.declared.Lighted.{Lighted}
 use Rattle.conduction.specs.Round.{roundCount, atRest}
-use Rattle.conduction.specs.First.{stampsAfter, Counted}
+use Rattle.conduction.specs.Stamps.{stampsAfter, Counted}
 use Rattle.conduction.specs.Light.{joined, litBy, light, lighted}
 use Rattle.conduction.specs.Wires.{codes, passes, passing, onCodes, CodeTable, LampReady}
 use Rattle.conduction.proofs.Rounds.{rests-same}
@@ -47,10 +47,10 @@ counted-as m n j j′ k t after agree counted =
 
 -- the table of codes says which cells conduct
 pub table-says :
-    (cells setting wires : List ℕ) (m n : ℕ) → LampReady cells setting m n wires
+    (cells setting firsts : List ℕ) (m n : ℕ) → LampReady cells setting m n firsts
     → (r c : ℕ) → r < m → c < n → passing (onCodes setting) cells n r c ≡ joins cells n setting r c
 unfolding passing passes onCodes joins maxSwitches codes
-table-says cells setting wires m n l r c h k =
+table-says cells setting firsts m n l r c h k =
     let i = r * n + c in
     let within : i < m * n = omega (arith, mul-le-mul-right n h) in
     let f : ℕ → ℕ = λ x. bit (conducts setting (cellOf x)) in

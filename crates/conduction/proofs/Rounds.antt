@@ -80,7 +80,7 @@ module _ (m n : ℕ) (joined : ℕ → ℕ → Bool) where
   unfolding lit
   round-lit set w h = rw (round-entry set w h) (eqb-bit (next set w))
 
-  -- one byte a wire, 0 or 1
+  -- one entry a wire, 0 or 1
   pub length-rounds : (t : ℕ) → length (rounds m n joined t) ≡ m + n
   unfolding rounds start round
   length-rounds zero = length-tab (m + n) (λ w. bit (eqb w 0))

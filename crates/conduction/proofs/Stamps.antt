@@ -33,7 +33,7 @@ use Rattle.common.proofs.Lists.{
 }
 use Rattle.conduction.specs.Round.{lit, round, rounds, atRest, isNew, firstRound, firstRounds}
 use Rattle.conduction.specs.Chain.{Wire, row, column, place, Within}
-use Rattle.conduction.specs.First.{stampsAfter}
+use Rattle.conduction.specs.Stamps.{stampsAfter}
 use Rattle.conduction.specs.Lit.{FirstLitIn}
 use Rattle.conduction.proofs.Rounds.{next, round-lit, wire-at, start-lit}
 use Rattle.conduction.proofs.First.{

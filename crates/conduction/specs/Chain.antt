@@ -4,7 +4,7 @@ use Prim.Native.Nat.{ℕ, suc, _≤_, _<_, _+_}
 use mathlib.Core.Path.{_≡_}
 use mathlib.Core.Bool.{Bool, true}
 
--- a wire: the row or the column with a number
+-- a wire: a row or a column, by its index
 pub data Wire : Type 0 where
   row : ℕ → Wire
   column : ℕ → Wire

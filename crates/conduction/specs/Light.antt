@@ -30,7 +30,7 @@ litBy x cells setting =
           firstRounds (x .rows) (x .columns) (joined x cells setting) (roundCount (x .rows) (x .columns) (joined x cells setting));
     }
 
--- record, cells, setting and how many numbers the output buffer holds in. "Grounds for sending a job back": "Light checks 12, 13, 14, 15", line
+-- In: record, cells, setting, and how many numbers the output buffer holds. "Grounds for sending a job back": "Light checks 12, 13, 14, 15", line
 -- 0. Ground 15: "A further round would still add a wire after R + C − 1 rounds."
 unfoldable pub light : Crossbar → List ℕ → List ℕ → ℕ → Outcome Lit
 light x cells setting room =

@@ -38,6 +38,8 @@ pub record Answer (m n : ℕ) (j : ℕ → ℕ → Bool) (a : Lit) : Type 0 wher
   pub chains : (w : Wire) → Within m n w → (getD (a .firsts) (place m w) 0 ≡ 0 → ⊥) ↔ Chain m n j w
   -- and then the number less 1 is the least count of cells of any chain to it
   pub shortest : (w : Wire) (t : ℕ) → Within m n w → (getD (a .firsts) (place m w) 0 ≡ 1 + t) ↔ LeastCells m n j w t
+  -- a number is at most R + C, so that it is one of 16 bits
+  pub most : (i : ℕ) → getD (a .firsts) i 0 ≤ m + n
   -- the largest number is the count of rounds plus 1: no wire has a larger one, and some wire has that
   pub none-larger : (i : ℕ) → getD (a .firsts) i 0 ≤ a .count + 1
   pub largest : (w : Wire) × (Within m n w) × (getD (a .firsts) (place m w) 0 ≡ a .count + 1)

@@ -1,9 +1,10 @@
 -- Document 01, "Conduction": the rounds. R and C, the numbers of rows and columns, are m and n here, and joined r c says whether the
--- cell at row r and column c conducts. A set of lit wires is one byte a wire, rows then columns, 1 lit, 0 dark.
+-- cell at row r and column c conducts. A set of lit wires is one entry a wire, rows then columns, 1 lit, 0 dark.
 use Prim.Native.Nat.{ℕ, zero, suc, _+_, _-_}
+use mathlib.Core.Path.{_≡_}
 use mathlib.Core.Bool.{Bool, true, false, not, _&&_, _||_}
 use mathlib.Core.List.{List, _++_}
-use lib.ListN.{getD}
+use lib.ListN.{length, getD}
 use lib.Dec.{eqb}
 use Rattle.common.specs.Lists.{bit, tab, some-below, same}
 
@@ -39,21 +40,27 @@ firstRest m n joined (suc k) t = elim (atRest m n joined t) [ true ↦ t | false
 unfoldable pub roundCount : ℕ → ℕ → (ℕ → ℕ → Bool) → ℕ
 roundCount m n joined = firstRest m n joined (m + n - 1) 0
 
--- Document 02, Req 01: "The single round must therefore promise which wires are new": whether round t + 1 adds a wire, which is lit after it
--- and not before
+-- Document 02, Req 01: "The single round must therefore promise which wires are new": whether wire w is new in round t + 1, lit after it and
+-- not before it
 unfoldable pub isNew : ℕ → ℕ → (ℕ → ℕ → Bool) → ℕ → ℕ → Bool
 isNew m n joined t w = lit (rounds m n joined (suc t)) w && not (lit (rounds m n joined t) w)
 
--- of the sets after t, t + 1, .. rounds, k of them, the first that has the wire: 1 plus its number of rounds, or 0 where none has it
-unfoldable pub firstLit : ℕ → ℕ → (ℕ → ℕ → Bool) → (w k t : ℕ) → ℕ
-firstLit m n joined w zero t = 0
-firstLit m n joined w (suc k) t = elim (lit (rounds m n joined t) w) [ true ↦ 1 + t | false ↦ firstLit m n joined w k (suc t) ]
+-- of the k sets after t, t + 1, .. rounds, the first that has the wire: 1 plus its count of rounds, or 0 where none has it
+unfoldable pub firstAmong : ℕ → ℕ → (ℕ → ℕ → Bool) → (w k t : ℕ) → ℕ
+firstAmong m n joined w zero t = 0
+firstAmong m n joined w (suc k) t = elim (lit (rounds m n joined t) w) [ true ↦ 1 + t | false ↦ firstAmong m n joined w k (suc t) ]
 
 -- Req 01: "0 if dark, otherwise 1 plus the round in which it was first lit, so row 0 gives 1": a wire's number after t rounds, by the sets
 -- after 0, 1, .. t rounds
 unfoldable pub firstRound : ℕ → ℕ → (ℕ → ℕ → Bool) → (t w : ℕ) → ℕ
-firstRound m n joined t w = firstLit m n joined w (suc t) 0
+firstRound m n joined t w = firstAmong m n joined w (suc t) 0
 
--- those of all wires, rows then columns
+-- the first rounds of all wires, rows then columns
 unfoldable pub firstRounds : ℕ → ℕ → (ℕ → ℕ → Bool) → ℕ → List ℕ
 firstRounds m n joined t = tab (m + n) (firstRound m n joined t)
+
+-- what round t + 1 promises, over the wires' first rounds before it and after it, with other places past the wires: each wire that is new gets
+-- 1 plus that round, which is t + 2, and every other place keeps what it had; `adds` says whether any wire is new
+pub record Rounded (m n : ℕ) (joined : ℕ → ℕ → Bool) (t : ℕ) (before after : List ℕ) (added : Bool) : Type 0 where
+  pub new-wires : after ≡ tab (length before) (λ w. elim (isNew m n joined t w) [ true ↦ t + 2 | false ↦ getD before w 0 ])
+  pub adds : added ≡ not (atRest m n joined t)

@@ -1,4 +1,4 @@
--- The wires of one side, its rows or its columns, as the code keeps them: a list of numbers in which the lit wires stand before the dark ones,
+-- The wires of one side, its rows or its columns, as the code keeps them: a list of keys in which the lit wires stand before the dark ones,
 -- in the order in which they were lit. Working definitions: only contracts within this crate cite them.
 use Prim.Native.Nat.{ℕ, _+_, _*_, _/_, _%_, _≤_, _<_}
 use mathlib.Core.Path.{_≡_}
@@ -12,13 +12,12 @@ use Rattle.cells.specs.Code.{cellOf}
 use Rattle.cells.specs.Conducts.{conducts}
 use Rattle.cells.specs.Setting.{isSetting}
 use Rattle.cells.specs.Record.{codesLow}
-use Rattle.conduction.specs.First.{Rounded}
 
 -- the codes that a byte can hold
 unfoldable pub codes : ℕ
 codes = 256
 
--- A wire is one number: its place in light's answer times `unit`, plus what it adds to the place of a cell. Row r adds r·n and column c adds
+-- A wire's key is its place in light's answer times `unit`, plus what it adds to the place of a cell. Row r adds r·n and column c adds
 -- c, so that the cell where they meet stands at the sum.
 unfoldable pub unit : ℕ
 unit = 65536
@@ -153,17 +152,11 @@ pub record Fits (on cells rows columns stamps : List ℕ) : Type 0 where
 unfoldable pub passing : (on cells : List ℕ) (n r c : ℕ) → Bool
 passing on cells n r c = passes on cells (r * n + c)
 
--- what a round does: the stamps after it, whether it added a wire, and that the next round can follow. The wires that it added stand from
--- `dark` up to `end`.
-pub record Turned (on cells rows columns stamps rows′ columns′ stamps′ : List ℕ) (t tail dark end : ℕ) : Type 0 where
-  pub rounded : Rounded (length rows) (length columns) (passing on cells (length columns)) t stamps stamps′ (ltb dark end)
-  pub standing : Standing rows′ columns′ stamps′ (t + 1) dark end tail
-
 -- the table of codes under a setting: 1 for each code of its switches that conducts
 unfoldable pub onCodes : List ℕ → List ℕ
 onCodes setting = padded codes (tab (2 + 2 * length setting) (λ k. bit (conducts setting (cellOf k))))
 
--- what light has checked before the rounds: the sizes, the cells' codes, the setting, and the room for the wires
+-- what light has checked before the rounds: the sizes, the cells' codes, the setting, and the room for the first rounds
 pub record LampReady (cells setting : List ℕ) (m n : ℕ) (firsts : List ℕ) : Type 0 where
   pub row-0 : 0 < m
   pub rows-fit : m ≤ maxRows

@@ -19,7 +19,7 @@ ghost use Rattle.common.specs.Lists.{bit, zeros};
 ghost use Rattle.common.specs.Outcome.{refused, Answered};
 ghost use Rattle.cells.specs.Conducts.{joins};
 ghost use Rattle.cells.specs.Setting.{isSetting};
-ghost use Rattle.conduction.specs.First.{Counted};
+ghost use Rattle.conduction.specs.Stamps.{Counted};
 ghost use Rattle.conduction.specs.Light.{light, lighted};
 ghost use Rattle.conduction.specs.Wires.{onCodes, LampReady};
 

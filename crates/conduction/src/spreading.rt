@@ -1,5 +1,5 @@
 // How light spreads from wires that are lit to dark ones: the parts of a round. The wires of one side, its rows or its columns, are a list
-// in which the lit ones stand before the dark ones, in the order in which they were lit. A wire is one number: its place in light's answer
+// in which the lit ones stand before the dark ones, in the order in which they were lit. A wire's key is its place in light's answer
 // times UNIT, plus what it adds to the place of a cell. Row r adds r·n and column c adds c, so that the cell where they meet stands at the
 // sum.
 ghost use mathlib.Core.Path.{_≡_};

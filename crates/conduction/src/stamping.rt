@@ -1,5 +1,5 @@
-// The rounds, by stamps. A stamp for each wire, rows then columns, is 0 while the wire is dark, else 1 plus the round in which it was
-// first lit. A round looks at the cells where the wires that the round before it lit meet dark ones.
+// The rounds, by stamps. A stamp for each wire, rows then columns, is its first round: 0 while the wire is dark, else 1 plus the round in
+// which it was first lit. A round looks at the cells where the wires that the round before it lit meet dark ones.
 use crate::spreading::Front;
 use crate::spreading::line_up;
 use crate::spreading::mark;
@@ -7,8 +7,10 @@ use crate::spreading::spread;
 ghost use mathlib.Core.Path.{_≡_};
 ghost use Prim.Native.Nat.{_+_, _<_};
 ghost use lib.ListN.{length};
-ghost use Rattle.conduction.specs.First.{stampsAfter, Counted};
-ghost use Rattle.conduction.specs.Wires.{passing, Fits, Standing, Turned};
+ghost use lib.Dec.{ltb};
+ghost use Rattle.conduction.specs.Round.{Rounded};
+ghost use Rattle.conduction.specs.Stamps.{stampsAfter, Counted};
+ghost use Rattle.conduction.specs.Wires.{passing, Fits, Standing};
 
 // Round t + 1, from the wires that round t lit: rows where t is even, columns where it is odd. The answer is where the wires that it lit end.
 fn round(
@@ -22,7 +24,16 @@ fn round(
     requires { ⌜ Fits (now on) (now cells) (now rows) (now columns) (now stamps) × (front .round < length (now rows) + length (now columns)) ⌝ }
     requires { ⌜ Standing (now rows) (now columns) (now stamps) (front .round) (front .head) (front .tail) (front .dark) ⌝ }
     requires { ⌜ now stamps ≡ stampsAfter (length (now stamps)) (length (now rows)) (length (now columns)) (passing (now on) (now cells) (length (now columns))) (front .round) ⌝ }
-    ensures { λ r. ⌜ Turned (now (on .entry)) (now (cells .entry)) (now (rows .entry)) (now (columns .entry)) (now (stamps .entry)) (now (rows .exit)) (now (columns .exit)) (now (stamps .exit)) (front .round) (front .tail) (front .dark) r ⌝ }
+    ensures new_wires { λ r.
+        ⌜ Rounded (length (now (rows .entry)))
+        (length (now (columns .entry)))
+        (passing (now (on .entry)) (now (cells .entry)) (length (now (columns .entry))))
+        (front .round)
+        (now (stamps .entry))
+        (now (stamps .exit))
+        (ltb (front .dark) r) ⌝ }
+    ensures ready { λ r.
+        ⌜ Standing (now (rows .exit)) (now (columns .exit)) (now (stamps .exit)) (front .round + 1) (front .dark) r (front .tail) ⌝ }
 {
     let t = front.round;
     let dark = front.dark;
@@ -37,7 +48,8 @@ fn round(
 }
 
 // The rounds, until one adds no wire, or the number of rounds is that of the wires. The answer is the count of rounds, or the number of
-// wires where a further round would still add a wire after one less.
+// wires where a further round would still add a wire after one less. The lists of wires are working space: what they hold afterwards is
+// left open.
 pub fn rounds(
     cells: &[u8],
     on: &[u8],

@@ -1,6 +1,6 @@
 // The calls for a C program, on numbers and byte slices.
 pub mod answers; // answers.rt: one number for an outcome
-pub mod bytes; // bytes.rt: the crossbar record as bytes
+pub mod bytes; // bytes.rt: numbers as bytes: the crossbar record and the first rounds
 
 use cells::Crossbar;
 use common::MAX_COLUMNS;
@@ -35,8 +35,8 @@ pub extern "C" fn crossbar_walk(text: &[u8], setting: &[u8], output: u32) -> u64
     answers::pack(refusal, walked.value as u64)
 }
 
-// Light into a buffer of bytes, two for each number. It is lent as many numbers as the buffer holds, and not more than the record has
-// wires.
+// Light into a buffer of bytes, two for each number. The call beneath is lent as many numbers as the buffer holds, and not more than the
+// record has wires or the largest crossbar has.
 fn light_bytes(x: Crossbar, cells: &[u8], setting: &[u8], firsts: &mut [u8]) -> Lighted
     ensures { λ r.
         ⌜ Answered (light x (now (cells .entry)) (now (setting .entry)) (length (now (firsts .entry)) / 2))

@@ -39,7 +39,8 @@ use Rattle.listings.specs.Loading.{Listed, loadFrom, recordOf, cellsOf, loadAt}
 use Rattle.listings.proofs.Answers.{outputs-in}
 use Rattle.listings.proofs.Refusals.{FewCells, listing-ends}
 use Rattle.listings.proofs.RoundTrip.{print-zeros}
-use Rattle.programs.specs.Programs.{programText, inputFits, mapProgram, setLine, reading, readsLines, readings, ReadsTheSet, lightAndRead, lightProgram}
+use Rattle.programs.specs.Programs.{programText, inputFits, mapProgram, setLine, reading, readsLines, readings, lightAndRead, lightProgram}
+use Rattle.programs.specs.Sets.{setLines, setReadings, SameBytes}
 use Rattle.programs.specs.Setting.{setOf}
 use Rattle.programs.specs.Texts.{inRoom, wholeOrNone, Said}
 use Rattle.programs.proofs.Texts.{reading-lit, reading-dark}
@@ -150,8 +151,10 @@ readings-padded : (x : Crossbar) (a : Lit) (n : ℕ) → readings x (lit-padded 
 unfolding readings padded
 readings-padded x a n = rw (readsLines-zeros (a .firsts) (n - length (a .firsts)) 0 (take (x .outputs) (x .outs)))
 
--- what is printed of an output is its row's byte in the set after the rounds
-pub reads-the-set : ReadsTheSet
+-- what is printed of an output is the entry of its row in the set after the rounds
+reads-the-set :
+    (x : Crossbar) (codes setting : List ℕ) (room : ℕ) (a : Lit) → light x codes setting room ≡ done a
+    → (r : ℕ) → reading (a .firsts) r ≡ getD (rounds (x .rows) (x .columns) (joined x codes setting) (a .count)) r 0
 reads-the-set x codes setting room a done-so r =
     let answer = light-answers x codes setting room a done-so .answer in
     let m = x .rows in
@@ -166,6 +169,19 @@ reads-the-set x codes setting room a done-so r =
     (λ (l : lit (rounds m n j (a .count)) r ≡ false). absurd (some (answer .dark r .1 l)))
     (by-test (lit (rounds m n j (a .count)) r)))
     (equal-or-not (getD (a .firsts) r 0) 0)
+
+lines-by-set :
+    (firsts set : List ℕ) → ((r : ℕ) → reading firsts r ≡ getD set r 0) → (j : ℕ) (rows : List ℕ) → readsLines firsts j rows ≡ setLines set j rows
+unfolding readsLines setLines
+lines-by-set firsts set same j [] = refl
+lines-by-set firsts set same j (r ∷ rows) = rw (same r, lines-by-set firsts set same (suc j) rows)
+
+pub same-bytes : SameBytes
+unfolding readings setReadings
+same-bytes x codes setting room a done-so =
+    rw
+    (lines-by-set (a .firsts) (rounds (x .rows) (x .columns) (joined x codes setting) (a .count)) (reads-the-set x codes setting room a done-so) 0
+    (take (x .outputs) (x .outs)))
 
 module _ (x : Crossbar) (codes setting : List ℕ) where
   abbrev lamp : Outcome Lit

@@ -1,6 +1,5 @@
 -- Document 01, "Two programs": what each prints for its whole input.
 use Prim.Native.Nat.{ℕ, suc, _+_, _*_}
-use mathlib.Core.Path.{_≡_}
 use mathlib.Core.Bool.{true, false, not, _&&_}
 use mathlib.Core.Option.{some, none}
 use mathlib.Core.List.{List, [], _∷_, _++_}
@@ -16,8 +15,7 @@ use Rattle.forms.specs.Template.{values, line}
 use Rattle.forms.specs.Due.{Taken}
 use Rattle.forms.specs.Forms.{setForm, refusedForm, roundsForm, readsForm, endForm}
 use Rattle.placement.specs.Map.{mapJob}
-use Rattle.conduction.specs.Round.{rounds}
-use Rattle.conduction.specs.Light.{Lit, joined, light}
+use Rattle.conduction.specs.Light.{Lit, light}
 use Rattle.listings.specs.Listing.{listing}
 use Rattle.listings.specs.Loading.{loadFrom, recordOf, cellsOf}
 
@@ -63,14 +61,6 @@ readsLines firsts j (r ∷ rs) = line readsForm (j ∷ reading firsts r ∷ []) 
 -- "It prints `(rounds t)`, a line `(reads J v)` for each output with v 1 if lit, and `(end)`."
 unfoldable pub readings : Crossbar → Lit → List ℕ
 readings x a = line roundsForm (a .count ∷ []) ++ readsLines (a .firsts) 0 (take (x .outputs) (x .outs)) ++ line endForm []
-
--- "v 1 if lit": what is printed of an output on row r is that row's byte in document 01's set after the rounds. So Req 01 changes no byte
--- of the second program's text. The proof is `reads-the-set` in proofs/Printing.antt.
-abbrev pub ReadsTheSet : Type 0
-ReadsTheSet =
-    (x : Crossbar) (cells setting : List ℕ) (room : ℕ) (a : Lit)
-    → light x cells setting room ≡ done a
-    → (r : ℕ) → reading (a .firsts) r ≡ getD (rounds (x .rows) (x .columns) (joined x cells setting) (a .count)) r 0
 
 -- light on the loaded crossbar under the set line's setting, then its readings: "a set line with the wrong number of figures is `(refused 13 0)` after the listing
 -- passes"

@@ -45,7 +45,7 @@ pub fn refuse(out: &mut [u8], refusal: Refusal) -> usize
     said(out, past)
 }
 
-// What an output on a row reads: 1 where the row's number is not 0, and 0 past the last wire.
+// What an output on a row reads: 1 where the row's number is not 0, else 0, and 0 past the last wire.
 fn reading(firsts: &[u16], row: usize) -> u32
     ensures { λ r. ⌜ r ≡ reading (now (firsts .entry)) row ⌝ }
 {

@@ -58,9 +58,9 @@ extern "C" {
 /// The header's CROSSBAR_MAX_LISTING: always enough for a listing.
 pub const MAX_LISTING: usize = 393_728;
 
-/// The header's CROSSBAR_MAX_FIRST_ROUNDS: always enough for what light gives,
+/// The header's CROSSBAR_MAX_FIRST_ROUNDS_BYTES: always enough for what light gives,
 /// two bytes for each of 128 rows and 128 columns.
-pub const MAX_FIRST_ROUNDS: usize = 512;
+pub const MAX_FIRST_ROUNDS_BYTES: usize = 512;
 
 /// The calls themselves, on slices that the caller owns. For measuring time;
 /// the tests go through a `Lender`.

@@ -2,7 +2,7 @@
 
 use super::sheets::{A, A_LISTING, E, F, G};
 use crate::run::Run;
-use differential::{MAX_FIRST_ROUNDS, MAX_LISTING};
+use differential::{MAX_FIRST_ROUNDS_BYTES, MAX_LISTING};
 use reference::diagrams::{HALF_ADDER, PARITY_OF_THREE, STATIC_CROSSBAR};
 use reference::host::{numbers_of, record_bytes, record_of};
 use reference::random::*;
@@ -14,7 +14,7 @@ fn both(run: &mut Run, record: &[u8], cells: &[u8], switches: u16) {
         return;
     }
     let setting = any_setting(&mut run.rng, switches);
-    let rooms = [0, 1, 6, 7, 80, 81, MAX_FIRST_ROUNDS, 599, 600];
+    let rooms = [0, 1, 6, 7, 80, 81, MAX_FIRST_ROUNDS_BYTES, 599, 600];
     let room = run.rng.pick(&rooms).unwrap_or(0);
     run.light(record, cells, &setting, room);
     let room = run.rng.pick(&[0, 20, 60, 400, 3000]).unwrap_or(0);
@@ -31,7 +31,7 @@ pub fn records(run: &mut Run) {
             if let Some((damaged, cells)) = damaged {
                 let bytes = record_bytes(&damaged);
                 let setting = any_setting(&mut run.rng, damaged.switches.min(70));
-                let answer = run.light(&bytes, &cells, &setting, MAX_FIRST_ROUNDS);
+                let answer = run.light(&bytes, &cells, &setting, MAX_FIRST_ROUNDS_BYTES);
                 run.known_refusal(&answer, 12, 0);
                 let answer = run.print(&bytes, &cells, 500);
                 run.known_refusal(&answer, 12, 0);
@@ -252,9 +252,9 @@ pub fn large_buffers(run: &mut Run) {
     run.demand(answer.value() == longest as u64, || format!("{answer:?}\n"));
     // The most wires that there are.
     let setting = setting(&mut run.rng, record.switches);
-    let answer = run.light(&bytes, &cells, &setting, MAX_FIRST_ROUNDS);
+    let answer = run.light(&bytes, &cells, &setting, MAX_FIRST_ROUNDS_BYTES);
     run.demand(answer.number() == 0, || format!("refused: {answer:?}\n"));
-    let answer = run.light(&bytes, &cells, &setting, MAX_FIRST_ROUNDS - 1);
+    let answer = run.light(&bytes, &cells, &setting, MAX_FIRST_ROUNDS_BYTES - 1);
     run.known_refusal(&answer, 14, 0);
 }
 

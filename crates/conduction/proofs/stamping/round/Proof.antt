@@ -38,8 +38,10 @@ returns c =
     let called = marked .before .before .before .before .before in
     let then1 = called .before .before .before in
     let start = then1 .before .before .before .before .before .before in
+    let turned =
     turn-across _ _ _ _ _ _ _ _ _ _ _ (start .pre .0 .0) (start .pre .1 .0) (start .pre .1 .1) (marked .mark .kept .0) _ (then1 .if1 .taken) (called .spread .kept .1 .1 .1 .0) (called .spread .ensures)
-    (marked .mark .ensures)
+    (marked .mark .ensures) in
+    (turned .rounded, turned .standing)
 
 spread-requires-2 : tie.Need-spread-requires-2
 spread-requires-2 c κs =
@@ -74,8 +76,10 @@ returns-2 c =
     let called = marked .before .before .before .before .before in
     let else1 = called .before .before .before in
     let start = else1 .before .before .before .before .before .before in
+    let turned =
     turn-back _ _ _ _ _ _ _ _ _ _ _ (start .pre .0 .0) (start .pre .1 .0) (start .pre .1 .1) (marked .mark2 .kept .0) _ (else1 .if1 .left) (called .spread2 .kept .1 .1 .1 .0) (called .spread2 .ensures)
-    (marked .mark2 .ensures)
+    (marked .mark2 .ensures) in
+    (turned .rounded, turned .standing)
 
 pub round-spec : {M : Type 1} → statement M
 round-spec =

@@ -86,7 +86,7 @@ loop-again : tie.Need-loop-again Inv-loop μ-loop
 loop-again c =
     let called = c .before .before .before .before .before .before .before in
     let else1 = called .before .before .before .before in
-    running-on _ _ _ _ _ _ _ _ _ _ _ _ (else1 .before .loop .inv) _ _ _ _ (called .round .ensures) (c .if2 .left) (else1 .if1 .left)
+    running-on _ _ _ _ _ _ _ _ _ _ _ _ (else1 .before .loop .inv) _ _ _ _ (record { rounded = called .round .ensures .0; standing = called .round .ensures .1 }) (c .if2 .left) (else1 .if1 .left)
     (called .round .kept .1 .1 .0) (called .round .kept .1 .1 .1 .0) (called .round .kept .1 .1 .1 .1 .0)
 
 same-length : tie.Need-same-length Inv-loop μ-loop
@@ -119,7 +119,7 @@ same-length-6 c =
 returns-2 : tie.Need-returns-2 Inv-loop μ-loop
 returns-2 c =
     let called = c .before .before .before .before .before .before .before in
-    running-rest _ _ _ _ _ _ _ _ _ _ _ _ (called .before .before .before .before .before .loop .inv) _ _ _ _ (called .round .ensures) (c .if2 .taken)
+    running-rest _ _ _ _ _ _ _ _ _ _ _ _ (called .before .before .before .before .before .loop .inv) _ _ _ _ (record { rounded = called .round .ensures .0; standing = called .round .ensures .1 }) (c .if2 .taken)
 
 pub rounds-spec : {M : Type 1} → statement M
 rounds-spec =
