@@ -2,14 +2,13 @@
 use Prim.Native.Nat.{ℕ, zero, suc, _+_, _-_, _≤_, _<_}
 use mathlib.Core.Path.{_≡_, refl, sym, ap, _∙_}
 use mathlib.Core.Logic.{_⊎_, inl, inr, ⊎-elim}
-use mathlib.Core.Bool.{Bool, true, false, not, _&&_}
+use mathlib.Core.Bool.{Bool, true, false, not}
 use mathlib.Core.List.{List}
 use native.Mathlib.Omega.{arith}
 use native.Mathlib.Nat.{add-suc, add-zero}
 use lib.ListN.{length, getD, List·getD-eq-default}
 use lib.Seq.{ext-getD}
-use borrow.Author.Tests.{not-false}
-use Rattle.common.specs.Lists.{tab, some-below}
+use Rattle.common.specs.Lists.{some-below}
 use Rattle.common.proofs.Lists.{
   and-left,
   and-right,
@@ -18,7 +17,6 @@ use Rattle.common.proofs.Lists.{
   by-test,
   true-or-false,
   below-or-not,
-  equal-or-not,
   length-tab,
   getD-tab,
   tab-agree,

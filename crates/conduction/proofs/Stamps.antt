@@ -1,6 +1,6 @@
 -- Rounds by stamps: a wire is new in a round just where it was dark and a conducting cell joins it to a wire that the round before lit. The
 -- reason is that a wire lit earlier has had its neighbours lit by then.
-use Prim.Native.Nat.{ℕ, zero, suc, _+_, _-_, _≤_, _<_}
+use Prim.Native.Nat.{ℕ, suc, _+_, _-_, _≤_, _<_}
 use mathlib.Core.Path.{_≡_, refl, sym, ap, _∙_}
 use mathlib.Core.Logic.{_⊎_, inl, inr, ⊎-elim}
 use mathlib.Core.Bool.{Bool, true, false, _&&_, _||_}

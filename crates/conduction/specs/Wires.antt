@@ -5,7 +5,7 @@ use mathlib.Core.Path.{_≡_}
 use mathlib.Core.Bool.{Bool, true, false, _&&_}
 use mathlib.Core.List.{List}
 use lib.ListN.{length, getD, take}
-use lib.Dec.{eqb, leb, ltb}
+use lib.Dec.{eqb, leb}
 use Rattle.common.specs.Limits.{maxRows, maxColumns, maxSwitches}
 use Rattle.common.specs.Lists.{bit, padded, tab, some-below}
 use Rattle.cells.specs.Code.{cellOf}

@@ -3,7 +3,7 @@ use Prim.Native.Nat.{ℕ, suc, _+_, _*_, _≤_}
 use mathlib.Core.Path.{_≡_, refl}
 use mathlib.Core.List.{List, [], _∷_}
 use native.Mathlib.Omega.{arith}
-use lib.ListN.{length, getD, take, length-append, length-replicate, length-take}
+use lib.ListN.{length, take, length-append, length-replicate, length-take}
 use Rattle.common.specs.Limits.{maxRows, maxColumns, maxOutputs, maxText}
 use Rattle.common.specs.Lists.{zeros}
 use Rattle.common.specs.Outcome.{Outcome, done, refused, _then_}
