@@ -1,5 +1,5 @@
-"""The library from Python: maps a job and prints what each output reads under every setting, beside the walk's value, and the first
-round of each output's row: 0 if it is dark, otherwise 1 plus the round in which it was first lit.
+"""The library from Python: maps a job and prints what each output reads under every setting, beside the walk's value, and the round
+in which each output's row was first lit: 0 for row 0, - where it is dark.
 
     python3 examples/host.py JOB [LIBRARY]
 

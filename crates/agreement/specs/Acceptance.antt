@@ -1,6 +1,6 @@
--- What the calls that a C program links accept: for each of them, exactly when it refuses nothing, by what it is handed. So nothing but a
--- ground that document 01 lists is refused. MapCall and the others are the contracts of the calls (crates/crossbar/specs/Host.antt), and
--- numberPart is CROSSBAR_NUMBER of include/crossbar.h, which is 0 where nothing is refused.
+-- What the calls that a C program links accept: for each of them, exactly when it refuses nothing, by what it is handed, and of light also
+-- exactly when it gives 14. So nothing but a ground that the documents list is refused. MapCall and the others are the contracts of the
+-- calls (crates/crossbar/specs/Host.antt), and numberPart is CROSSBAR_NUMBER of include/crossbar.h, which is 0 where nothing is refused.
 -- The proof is `calls-accept` in proofs/Acceptance.antt: CallsAccept.
 use Prim.Native.Nat.{ℕ, _+_, _*_, _≤_, _<_}
 use mathlib.Core.Path.{_≡_}

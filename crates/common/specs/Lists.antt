@@ -5,7 +5,7 @@ use mathlib.Core.List.{List, [], _∷_, _++_}
 use lib.ListN.{length, replicate}
 use lib.Dec.{eqb}
 
--- a truth value as a byte: 1 or 0
+-- a truth value as a number: 1 or 0
 unfoldable pub bit : Bool → ℕ
 bit true = 1
 bit false = 0

@@ -14,7 +14,7 @@ use Rattle.conduction.specs.Wires.{unit, placeOf, addsOf, wireOf, passes
 use Rattle.conduction.proofs.Stamps.{meets, stamp, reached, stamp-kept, stamp-new, stamp-out, stamp-cases, reached-by, reached-is}
 use Rattle.conduction.proofs.Sorting.{exchanged-all}
 
--- the two parts of a wire's number
+-- the two parts of a wire's key
 pub place-wire : (first step x : ℕ) → x * step < unit → placeOf (wireOf first step x) ≡ first + x
 unfolding placeOf wireOf unit
 place-wire first step x h = omega arith

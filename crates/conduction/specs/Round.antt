@@ -60,7 +60,7 @@ unfoldable pub firstRounds : ℕ → ℕ → (ℕ → ℕ → Bool) → ℕ → 
 firstRounds m n joined t = tab (m + n) (firstRound m n joined t)
 
 -- what round t + 1 promises, over the wires' first rounds before it and after it, with other places past the wires: each wire that is new gets
--- 1 plus that round, which is t + 2, and every other place keeps what it had; `adds` says whether any wire is new
+-- 1 plus that round, which is t + 2, and every other place keeps what it had; `added` says whether any wire is new
 pub record Rounded (m n : ℕ) (joined : ℕ → ℕ → Bool) (t : ℕ) (before after : List ℕ) (added : Bool) : Type 0 where
   pub new-wires : after ≡ tab (length before) (λ w. elim (isNew m n joined t w) [ true ↦ t + 2 | false ↦ getD before w 0 ])
   pub adds : added ≡ not (atRest m n joined t)

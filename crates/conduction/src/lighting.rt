@@ -71,7 +71,7 @@ fn refuse(number: u32, out: &mut [u16]) -> Lighted
 }
 
 // Document 01: the count of rounds of a crossbar under a setting. Document 02, Req 01: "Light gives for each wire, in place of its byte, a
-// 16-bit number". "Light checks 12, 13, 14, 15."
+// 16-bit number". Document 01: "Light checks 12, 13, 14, 15."
 pub fn light(x: Crossbar, cells: &[u8], setting: &[u8], firsts: &mut [u16]) -> Lighted
     ensures { λ r. ⌜ Answered (light x (now (cells .entry)) (now (setting .entry)) (length (now (firsts .entry)))) lighted (λ a. a .firsts) (length (now (firsts .entry))) r (now (firsts .exit)) ⌝ }
 {
