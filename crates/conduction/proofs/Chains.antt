@@ -1,5 +1,5 @@
--- Lit wires and chains: a wire that is lit after t rounds has a chain of at most t cells from row 0, a wire with a chain of t cells is lit
--- after t rounds, and at rest a wire with a chain is lit.
+-- Lit wires and chains: a wire that is lit after t rounds has a chain of at most t cells from row 0, and a wire with a chain of t cells is lit
+-- after t rounds.
 use Prim.Native.Nat.{ℕ, zero, suc, _+_, _≤_, _<_}
 use mathlib.Core.Path.{_≡_, sym, _∙_}
 use mathlib.Core.Logic.{⊎-elim}
@@ -9,9 +9,9 @@ use native.Mathlib.Omega.{arith}
 use borrow.Author.Tests.{eqb-true}
 use Rattle.common.specs.Lists.{some-below}
 use Rattle.common.proofs.Lists.{and-left, and-right, and-both, or-cases, or-right, some-below-at, some-below-is}
-use Rattle.conduction.specs.Round.{lit, round, rounds, atRest}
+use Rattle.conduction.specs.Round.{lit, round, rounds}
 use Rattle.conduction.specs.Chain.{Wire, row, column, Chain, here, across, back, cellCount, place, Within}
-use Rattle.conduction.proofs.Rounds.{next, start-lit, round-lit, row-0-lit, rest-same, place-below}
+use Rattle.conduction.proofs.Rounds.{next, start-lit, round-lit, place-below}
 
 module _ (m n : ℕ) (joined : ℕ → ℕ → Bool) where
   -- a chain to a wire of at most t cells
@@ -63,9 +63,6 @@ module _ (m n : ℕ) (joined : ℕ → ℕ → Bool) where
       (λ v. lit-short h t v)
       (sym (round-lit m n joined (rounds m n joined t) w k) ∙ e)
 
-  pub lit-chain : 0 < m → (t : ℕ) (w : Wire) → Within m n w → lit (rounds m n joined t) (place m w) ≡ true → Chain m n joined w
-  lit-chain h t w k e = lit-short h t w k e .0
-
   -- the wire that a chain comes to
   pub chain-within : 0 < m → (w : Wire) → Chain m n joined w → Within m n w
   unfolding Within
@@ -104,22 +101,3 @@ module _ (m n : ℕ) (joined : ℕ → ℕ → Bool) where
       step-across (rounds m n joined (cellCount before)) r c (chain-within h (row r) before) k e (chain-lights h (row r) before)
   chain-lights h w (back {r} {c} before k e) =
       step-back (rounds m n joined (cellCount before)) r c k (chain-within h (column c) before) e (chain-lights h (column c) before)
-
-  -- a set that a round leaves as it is, and that has row 0, has each wire with a chain
-  pub closed-lit :
-      0 < m → (set : List ℕ) → round m n joined set ≡ set → lit set 0 ≡ true → (w : Wire) → Chain m n joined w
-      → lit set (place m w) ≡ true
-  unfolding place Within
-  closed-lit h set same zeroth w here = zeroth
-  closed-lit h set same zeroth w (across {r} {c} before k e) =
-      let lit-before = closed-lit h set same zeroth (row r) before in
-      rw same at (step-across set r c (chain-within h (row r) before) k e lit-before)
-  closed-lit h set same zeroth w (back {r} {c} before k e) =
-      let lit-before = closed-lit h set same zeroth (column c) before in
-      rw same at (step-back set r c k (chain-within h (column c) before) e lit-before)
-
-  pub chain-lit :
-      0 < m → (t : ℕ) → atRest m n joined t ≡ true → (w : Wire) → Chain m n joined w
-      → lit (rounds m n joined t) (place m w) ≡ true
-  unfolding rounds
-  chain-lit h t rest = closed-lit h (rounds m n joined t) (rest-same m n joined t rest) (row-0-lit m n joined h t)

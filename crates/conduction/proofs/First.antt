@@ -8,6 +8,7 @@ use native.Mathlib.Omega.{arith}
 use native.Mathlib.Nat.{add-suc, add-zero}
 use lib.ListN.{length, getD, List·getD-eq-default}
 use lib.Seq.{ext-getD}
+use borrow.Author.Tests.{not-true}
 use Rattle.common.specs.Lists.{some-below}
 use Rattle.common.proofs.Lists.{
   and-left,
@@ -26,14 +27,6 @@ use Rattle.common.proofs.Lists.{
 use Rattle.conduction.specs.Round.{lit, rounds, atRest, isNew, firstAmong, firstRound, firstRounds}
 use Rattle.conduction.specs.Lit.{FirstLitIn}
 use Rattle.conduction.proofs.Rounds.{lit-one, one-lit, length-rounds, rounds-bits, rounds-same, kept, rest-same, same-rest}
-
--- the negation of a truth value
-not-is : (b : Bool) → b ≡ false → not b ≡ true
-not-is b e = rw e
-
-not-was : (b : Bool) → not b ≡ true → b ≡ false
-not-was true e = sym e
-not-was false e = refl
 
 module _ (m n : ℕ) (joined : ℕ → ℕ → Bool) where
   -- only wires are lit, and a lit wire stays lit
@@ -112,10 +105,13 @@ module _ (m n : ℕ) (joined : ℕ → ℕ → Bool) where
       (by-test (lit (rounds m n joined t) w))
 
   -- a wire's number after t rounds: 0 where it is dark then, else 1 plus the round in which it was first lit
-  pub first-cases :
-      (t w : ℕ)
-      → ((firstRound m n joined t w ≡ 0) × (lit (rounds m n joined t) w ≡ false))
-      ⊎ ((s : ℕ) × (firstRound m n joined t w ≡ 1 + s) × (s ≤ t) × FirstLitIn m n joined w s)
+  abbrev pub StillDark : ℕ → ℕ → Type 0
+  StillDark t w = (firstRound m n joined t w ≡ 0) × (lit (rounds m n joined t) w ≡ false)
+
+  abbrev pub LitSince : ℕ → ℕ → Type 0
+  LitSince t w = (s : ℕ) × (firstRound m n joined t w ≡ 1 + s) × (s ≤ t) × FirstLitIn m n joined w s
+
+  pub first-cases : (t w : ℕ) → StillDark t w ⊎ LitSince t w
   unfolding firstRound
   first-cases t w =
       ⊎-elim
@@ -144,9 +140,9 @@ module _ (m n : ℕ) (joined : ℕ → ℕ → Bool) where
   pub first-is : (t w s : ℕ) → s ≤ t → FirstLitIn m n joined w s → firstRound m n joined t w ≡ 1 + s
   first-is t w s h first =
       ⊎-elim
-      (λ (c : (firstRound m n joined t w ≡ 0) × (lit (rounds m n joined t) w ≡ false)).
+      (λ (c : StillDark t w).
       absurd (true-or-false (lit (rounds m n joined t) w) (lit-stays s t w h (first .lit-then)) (c .1)))
-      (λ (c : (u : ℕ) × (firstRound m n joined t w ≡ 1 + u) × (u ≤ t) × FirstLitIn m n joined w u).
+      (λ (c : LitSince t w).
       c .1 ∙ ap suc′ (first-only w (c .0) s (c .3) first))
       (first-cases t w)
     where
@@ -156,31 +152,31 @@ module _ (m n : ℕ) (joined : ℕ → ℕ → Bool) where
   pub first-none : (t w : ℕ) → lit (rounds m n joined t) w ≡ false → firstRound m n joined t w ≡ 0
   first-none t w e =
       ⊎-elim
-      (λ (c : (firstRound m n joined t w ≡ 0) × (lit (rounds m n joined t) w ≡ false)). c .0)
-      (λ (c : (s : ℕ) × (firstRound m n joined t w ≡ 1 + s) × (s ≤ t) × FirstLitIn m n joined w s).
+      (λ (c : StillDark t w). c .0)
+      (λ (c : LitSince t w).
       absurd (true-or-false (lit (rounds m n joined t) w) (lit-stays (c .0) t w (c .2) (c .3 .lit-then)) e))
       (first-cases t w)
 
   pub first-dark : (t w : ℕ) → firstRound m n joined t w ≡ 0 → lit (rounds m n joined t) w ≡ false
   first-dark t w e =
       ⊎-elim
-      (λ (c : (firstRound m n joined t w ≡ 0) × (lit (rounds m n joined t) w ≡ false)). c .1)
-      (λ (c : (s : ℕ) × (firstRound m n joined t w ≡ 1 + s) × (s ≤ t) × FirstLitIn m n joined w s). absurd (omega (arith, c .1)))
+      (λ (c : StillDark t w). c .1)
+      (λ (c : LitSince t w). absurd (omega (arith, c .1)))
       (first-cases t w)
 
   pub first-most : (t w : ℕ) → firstRound m n joined t w ≤ t + 1
   first-most t w =
       ⊎-elim
-      (λ (c : (firstRound m n joined t w ≡ 0) × (lit (rounds m n joined t) w ≡ false)). omega (arith, c .0))
-      (λ (c : (s : ℕ) × (firstRound m n joined t w ≡ 1 + s) × (s ≤ t) × FirstLitIn m n joined w s). omega (arith, c .1, c .2))
+      (λ (c : StillDark t w). omega (arith, c .0))
+      (λ (c : LitSince t w). omega (arith, c .1, c .2))
       (first-cases t w)
 
   -- a wire with the number 1 + s was first lit in round s
   pub first-says : (t w s : ℕ) → firstRound m n joined t w ≡ 1 + s → (s ≤ t) × FirstLitIn m n joined w s
   first-says t w s e =
       ⊎-elim
-      (λ (c : (firstRound m n joined t w ≡ 0) × (lit (rounds m n joined t) w ≡ false)). absurd (omega (arith, c .0)))
-      (λ (c : (u : ℕ) × (firstRound m n joined t w ≡ 1 + u) × (u ≤ t) × FirstLitIn m n joined w u).
+      (λ (c : StillDark t w). absurd (omega (arith, c .0)))
+      (λ (c : LitSince t w).
       let same-round : c .0 ≡ s = omega (arith, c .1) in
       (omega (arith, c .2), rw same-round at (c .3)))
       (first-cases t w)
@@ -193,12 +189,12 @@ module _ (m n : ℕ) (joined : ℕ → ℕ → Bool) where
   pub new-dark : (t w : ℕ) → isNew m n joined t w ≡ true → lit (rounds m n joined t) w ≡ false
   unfolding isNew
   new-dark t w e =
-      not-was (lit (rounds m n joined t) w) (and-right (lit (rounds m n joined (suc t)) w) (not (lit (rounds m n joined t) w)) e)
+      not-true (lit (rounds m n joined t) w) (and-right (lit (rounds m n joined (suc t)) w) (not (lit (rounds m n joined t) w)) e)
 
   pub is-new : (t w : ℕ) → lit (rounds m n joined (suc t)) w ≡ true → lit (rounds m n joined t) w ≡ false → isNew m n joined t w ≡ true
   unfolding isNew
   is-new t w e d =
-      and-both (lit (rounds m n joined (suc t)) w) (not (lit (rounds m n joined t) w)) e (not-is (lit (rounds m n joined t) w) d)
+      and-both (lit (rounds m n joined (suc t)) w) (not (lit (rounds m n joined t) w)) e (rw d)
 
   pub not-new : (t w : ℕ) → lit (rounds m n joined t) w ≡ true → isNew m n joined t w ≡ false
   unfolding isNew
@@ -217,12 +213,12 @@ module _ (m n : ℕ) (joined : ℕ → ℕ → Bool) where
       (λ (old : isNew m n joined t w ≡ false).
       let kept-number : firstRound m n joined (suc t) w ≡ firstRound m n joined t w =
       ⊎-elim
-      (λ (c : (firstRound m n joined t w ≡ 0) × (lit (rounds m n joined t) w ≡ false)).
+      (λ (c : StillDark t w).
       ⊎-elim
       (λ (l : lit (rounds m n joined (suc t)) w ≡ true). absurd (true-or-false (isNew m n joined t w) (is-new t w l (c .1)) old))
       (λ (l : lit (rounds m n joined (suc t)) w ≡ false). first-none (suc t) w l ∙ sym (c .0))
       (by-test (lit (rounds m n joined (suc t)) w)))
-      (λ (c : (s : ℕ) × (firstRound m n joined t w ≡ 1 + s) × (s ≤ t) × FirstLitIn m n joined w s).
+      (λ (c : LitSince t w).
       first-is (suc t) w (c .0) (omega (arith, c .2)) (c .3) ∙ sym (c .1))
       (first-cases t w) in
       kept-number ∙ rw old)

@@ -22,7 +22,7 @@ use Rattle.conduction.specs.Chain.{Wire, row, Chain, cellCount, LeastCel
 use Rattle.conduction.specs.Light.{Lit, joined, litBy, light}
 use Rattle.conduction.specs.Lit.{FirstLitIn, Answer, Lights}
 use Rattle.conduction.proofs.Rounds.{wire-at, rounds-after}
-use Rattle.conduction.proofs.Chains.{lit-short, lit-chain, chain-lights, chain-lit}
+use Rattle.conduction.proofs.Chains.{lit-short, chain-lights}
 use Rattle.conduction.proofs.First.{
   lit-stays,
   first-is,
@@ -75,11 +75,11 @@ module _ (m n : ℕ) (j : ℕ → ℕ → Bool) (row-0 : 0 < m) (count : ℕ) (r
   number-chain w k = (
     λ some.
         ⊎-elim
-        (λ (l : lit (rounds m n j count) (place m w) ≡ true). lit-chain m n j row-0 count w k l)
+        (λ (l : lit (rounds m n j count) (place m w) ≡ true). lit-short m n j row-0 count w k l .0)
         (λ (l : lit (rounds m n j count) (place m w) ≡ false). absurd (some (first-none m n j count (place m w) l)))
         (by-test (lit (rounds m n j count) (place m w))),
     λ chain z.
-        true-or-false (lit (rounds m n j count) (place m w)) (chain-lit m n j row-0 count rest w chain)
+        true-or-false (lit (rounds m n j count) (place m w)) (lit-at-rest (cellCount chain) (place m w) (chain-lights m n j row-0 w chain))
         (first-dark m n j count (place m w) z),
   )
 

@@ -43,6 +43,8 @@ use Rattle.conduction.proofs.First.{
   first-dark,
   first-is,
   first-says,
+  StillDark,
+  LitSince,
   first-cases,
   first-next,
   new-lit,
@@ -272,9 +274,9 @@ module _ (m n : ℕ) (joined : ℕ → ℕ → Bool) where
         let found = touched-is (rounds m n joined t) v l in
         let u = found .0 in
         ⊎-elim
-        (λ (c : (firstRound m n joined t u ≡ 0) × (lit (rounds m n joined t) u ≡ false)).
+        (λ (c : StillDark m n joined t u).
         absurd (true-or-false (lit (rounds m n joined t) u) (found .2) (c .1)))
-        (λ (c : (s : ℕ) × (firstRound m n joined t u ≡ 1 + s) × (s ≤ t) × FirstLitIn m n joined u s).
+        (λ (c : LitSince m n joined t u).
         let s = c .0 in
         ⊎-elim
         (λ (earlier : s < t).

@@ -1,5 +1,5 @@
 -- The calls of the host library: the answer and every byte lent, from what the calls beneath hand over.
-use Prim.Native.Nat.{ℕ, _-_, _*_, _/_, _≤_}
+use Prim.Native.Nat.{ℕ, _*_, _/_, _≤_}
 use mathlib.Core.Path.{_≡_, refl, sym, ap, _∙_}
 use mathlib.Core.Bool.{true, false}
 use mathlib.Core.List.{List, []}
@@ -64,17 +64,13 @@ print-refused s cells before after r =
     refused-12 length (λ t. t) s (print (recordFrom s) cells (length before)) (length before) r after
 
 -- the bytes of the numbers that light left
-padded-none : (m : ℕ) → zeros m ≡ padded m []
-unfolding padded
-padded-none m = let e : m ≡ m - 0 = omega arith in ap zeros e
-
 pairs-left :
     (k n : ℕ) (o : Outcome Lit) → 2 * k ≤ n → ((a : Lit) → o ≡ done a → length (a .firsts) ≤ k)
     → padded n (pairs (bufferOf k (λ a. a .firsts) o)) ≡ bufferOf n (λ a. pairs (a .firsts)) o
-unfolding bufferOf
+unfolding bufferOf pairs
 pairs-left k n (done a) h long = pairs-padded n k (a .firsts) (long a refl) h
 pairs-left k n (refused number line) h long =
-    ap (λ (l : List ℕ). padded n (pairs l)) (padded-none k) ∙ pairs-padded n k [] (omega arith) h ∙ sym (no-numbers n)
+    ap (λ (l : List ℕ). padded n (pairs l)) (no-numbers k) ∙ pairs-padded n k [] (omega arith) h ∙ sym (no-numbers n)
 
 pub light-bytes :
     (x : Crossbar) (cells setting before after numbers : List ℕ) (k : ℕ) (lit : Lighted)
