@@ -1,3 +1,4 @@
 pub mod Lists
 pub mod Outcome
 pub mod Within
+pub mod Cleared

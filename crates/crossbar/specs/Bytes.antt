@@ -1,10 +1,10 @@
 -- Numbers as bytes, two bytes a number, low byte first: the crossbar record, which is R, C, V, K and the 32 output rows, and the first rounds
 -- (document 02, Req 01: "for the host two bytes, low first").
 use Prim.Native.Nat.{ℕ, _+_, _*_, _/_, _%_}
-use mathlib.Core.Bool.{Bool, true, false, _&&_}
+use mathlib.Core.Bool.{Bool, _&&_}
 use mathlib.Core.List.{List, [], _∷_}
 use lib.ListN.{length, getD, set, drop}
-use lib.Dec.{eqb, leb, ltb}
+use lib.Dec.{eqb, leb}
 use Rattle.common.specs.Limits.{maxOutputs}
 use Rattle.common.specs.Lists.{tab, all-of}
 use Rattle.cells.specs.declared.Crossbar.{Crossbar}
@@ -52,7 +52,3 @@ recordFrom s =
       outputs = numberAt s 3;
       outs = tab maxOutputs (λ j. numberAt s (4 + j));
     }
-
--- the smaller of two numbers
-unfoldable pub smaller : ℕ → ℕ → ℕ
-smaller a b = elim (ltb a b) [ true ↦ a | false ↦ b ]

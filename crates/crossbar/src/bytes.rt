@@ -3,10 +3,10 @@
 use cells::Crossbar;
 use common::MAX_OUTPUTS;
 ghost use mathlib.Core.Path.{_≡_};
-ghost use Prim.Native.Nat.{_+_, _*_, _≤_, _<_};
+ghost use Prim.Native.Nat.{_+_, _*_, _≤_, _<_, min};
 ghost use lib.ListN.{length};
 ghost use Rattle.common.specs.Lists.{padded};
-ghost use Rattle.crossbar.specs.Bytes.{recordLength, pairs, recordBytes, withNumber, withNumbers, numberAt, recordFrom, holdsRecord, smaller};
+ghost use Rattle.crossbar.specs.Bytes.{recordLength, pairs, recordBytes, withNumber, withNumbers, numberAt, recordFrom, holdsRecord};
 
 // How many bytes a record has.
 pub const RECORD_BYTES: usize = 2 * (4 + MAX_OUTPUTS);
@@ -85,21 +85,21 @@ pub fn write_record(out: &mut [u8], x: Crossbar)
 }
 
 // Numbers into a buffer, and zeros past them.
-pub fn write_numbers(out: &mut [u8], numbers: &[u16])
-    requires { ⌜ 2 * length (now numbers) ≤ length (now out) ⌝ }
-    ensures { λ r. ⌜ now (out .exit) ≡ padded (length (now (out .entry))) (pairs (now (numbers .entry))) ⌝ }
+pub fn write_numbers(bytes: &mut [u8], numbers: &[u16])
+    requires { ⌜ 2 * length (now numbers) ≤ length (now bytes) ⌝ }
+    ensures { λ r. ⌜ now (bytes .exit) ≡ padded (length (now (bytes .entry))) (pairs (now (numbers .entry))) ⌝ }
 {
-    common::clear(out);
+    common::clear(bytes);
     let mut i = 0;
     while i < numbers.len() {
-        put_number(out, i, numbers[i]);
+        put_number(bytes, i, numbers[i]);
         i += 1;
     }
 }
 
 // The smaller of two numbers.
 pub fn smaller(a: usize, b: usize) -> usize
-    ensures { λ r. ⌜ r ≡ smaller a b ⌝ }
+    ensures { λ r. ⌜ r ≡ min a b ⌝ }
 {
     if a < b { a } else { b }
 }

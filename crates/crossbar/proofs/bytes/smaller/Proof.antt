@@ -1,14 +1,13 @@
 -- `crossbar::bytes::smaller` meets its contract.
-use mathlib.Core.Path.{sym}
-use Rattle.crossbar.proofs.Lent.{smaller-first, smaller-second}
+use native.Mathlib.Omega.{arith}
 use Rattle.crossbar.proofs.bytes.smaller.Statement.{statement}
 use Rattle.crossbar.proofs.bytes.smaller.Tie as tie
 
 returns : tie.Need-returns
-returns c = sym (smaller-first (c .before .args .a) (c .before .args .b) (c .if1 .taken))
+returns c = omega (arith, c .if1 .taken)
 
 returns-2 : tie.Need-returns-2
-returns-2 c = sym (smaller-second (c .before .args .a) (c .before .args .b) (c .if1 .left))
+returns-2 c = omega (arith, c .if1 .left)
 
 pub smaller-spec : {M : Type 1} → statement M
 smaller-spec = tie.close (tie.spec returns returns-2)

@@ -14,14 +14,14 @@ use Rattle.crossbar.proofs.bytes.write_numbers.Statement.{statement}
 use Rattle.crossbar.proofs.bytes.write_numbers.Tie as tie
 
 abbrev Inv-loop : tie.InvT-loop
-Inv-loop out₀ numbers i₀ out i =
+Inv-loop bytes₀ numbers i₀ bytes i =
     (i ≤ length numbers)
-    × (2 * length numbers ≤ length out₀)
-    × (length out ≡ length out₀)
-    × (out ≡ padded (length out₀) (pairs (take i numbers)))
+    × (2 * length numbers ≤ length bytes₀)
+    × (length bytes ≡ length bytes₀)
+    × (bytes ≡ padded (length bytes₀) (pairs (take i numbers)))
 
 abbrev μ-loop : tie.MeasureT-loop
-μ-loop out₀ numbers i₀ out i = length numbers - i
+μ-loop bytes₀ numbers i₀ bytes i = length numbers - i
 
 clear-requires : tie.Need-clear-requires Inv-loop μ-loop
 clear-requires c κs = search needs
@@ -30,7 +30,7 @@ loop-holds : tie.Need-loop-holds Inv-loop μ-loop
 loop-holds c =
     let cleared = c .before .before in
     let start = cleared .before .before .before .before in
-    let same : length (cleared .clear .last .0) ≡ length (start .args .out .now) = cleared .clear .kept .0 in
+    let same : length (cleared .clear .last .0) ≡ length (start .args .bytes .now) = cleared .clear .kept .0 in
     (omega arith, omega (arith, start .pre), refl, cleared .clear .ensures ∙ ap zeros (sym same) ∙ no-numbers (length (cleared .clear .last .0)))
 
 mul-put-number : tie.Need-mul-put-number Inv-loop μ-loop
@@ -62,7 +62,7 @@ loop-again c =
       inv .1,
       put .put-number .kept .0 ∙ inv .2,
       put .put-number .ensures
-          ∙ number-more _ i (getD numbers i 0) (take i numbers) (at-loop .loop .out) long (omega (arith, inv .1)) (inv .3)
+          ∙ number-more _ i (getD numbers i 0) (take i numbers) (at-loop .loop .bytes) long (omega (arith, inv .1)) (inv .3)
           ∙ rw next,
     )
 
@@ -74,7 +74,7 @@ returns c =
     let at-loop = c .before in
     let cleared = at-loop .before .before .before in
     let start = cleared .before .before .before .before in
-    let same : length (cleared .clear .last .0) ≡ length (start .args .out .now) = cleared .clear .kept .0 in
+    let same : length (cleared .clear .last .0) ≡ length (start .args .bytes .now) = cleared .clear .kept .0 in
     let numbers = start .args .numbers .now in
     let all : length numbers ≤ at-loop .loop .i = omega arith in
     at-loop .loop .inv .3 ∙ rw (take-all (at-loop .loop .i) numbers all, same)
