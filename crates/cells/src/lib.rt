@@ -1,4 +1,6 @@
 // A cell, its code, when it conducts, and the crossbar record.
+#![tactic(auto)]
+
 pub mod checks;
 
 ghost use Rattle.std.specs.Prelude.{◌≡◌, true, length, get_or};
@@ -9,7 +11,7 @@ ghost use Rattle.cells.specs.Setting.{is_setting};
 use common::MAX_OUTPUTS;
 
 // Document 01, "Placement": "A cell is off, on, or passes when a switch is 1 or 0."
-#[derive(Drop)]
+#[derive(Clone, Copy)]
 pub enum Cell {
     Off,
     On,
@@ -84,7 +86,7 @@ fn switch_at(setting: &[u8], x: u8) -> u8
 
 // Document 01, "Placement": "The crossbar record holds R, C, V, K and 32 output rows, the unused ones 0." The fields are
 // R, C, V and K, and outs holds the output rows.
-#[derive(Drop)]
+#[derive(Clone, Copy)]
 pub struct Crossbar {
     pub rows: u16,
     pub columns: u16,

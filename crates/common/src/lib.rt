@@ -1,4 +1,6 @@
 // What every layer shares: the limits of document 01, the refusal, and a buffer of zeros.
+#![tactic(auto)]
+
 ghost use Rattle.std.specs.Prelude.{◌≡◌, length};
 ghost use Rattle.common.specs.Lists.{zeros};
 
@@ -27,7 +29,7 @@ pub const LABEL_V: u16 = 2;
 pub const LABEL_B: u16 = 3;
 
 // Document 01, "Grounds for sending a job back": a refusal is its number and a line. Number 0 is no refusal.
-#[derive(Drop)]
+#[derive(Clone, Copy)]
 pub struct Refusal {
     pub number: u32,
     pub line: u32,

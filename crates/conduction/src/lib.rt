@@ -1,4 +1,6 @@
 // Conduction: rounds of light through a crossbar.
+#![tactic(auto)]
+
 use common::Refusal;
 
 pub mod lighting;
@@ -6,7 +8,7 @@ pub mod spreading;
 pub mod stamping;
 
 // Light's answer: the refusal, and the count of rounds, 0 after a refusal.
-#[derive(Drop)]
+#[derive(Clone, Copy)]
 pub struct Lighted {
     pub refusal: Refusal,
     pub rounds: u16,

@@ -12,7 +12,7 @@ pub const CODES: usize = 256;
 const UNIT: u32 = 65536;
 
 // The wires of a list that are still to be sorted, from `at` up to `end`, where the ones that were named stand before `lit`.
-#[derive(Drop)]
+#[derive(Clone, Copy)]
 pub struct Span {
     pub lit: usize,
     pub at: usize,
@@ -21,7 +21,7 @@ pub struct Span {
 
 // Where a round begins. Its wires, lit in the round before, are those of their list from `head` up to `tail`; the dark wires of the other
 // list begin at `dark`.
-#[derive(Drop)]
+#[derive(Clone, Copy)]
 pub struct Front {
     pub round: u16,
     pub head: usize,

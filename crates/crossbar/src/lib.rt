@@ -1,4 +1,6 @@
 // The calls for a C program, on numbers and byte slices.
+#![tactic(auto)]
+
 pub mod answers; // answers.rt: one number for an outcome
 pub mod bytes; // bytes.rt: numbers as bytes: the crossbar record and the first rounds
 

@@ -1,5 +1,7 @@
 // Diagrams: nodes, children, labels, the tests of a job's lines, the wires, the walk. A diagram is held in one flat table, four numbers for
 // each id, the terminals' first.
+#![tactic(auto)]
+
 pub mod table; // table.rt: the flat table that holds a diagram
 pub mod seen; // seen.rt: marks for ground 8
 pub mod faults; // faults.rt: grounds 2 to 9 on one line each
@@ -9,7 +11,7 @@ pub mod walks; // walks.rt: the diagram walk
 use common::MAX_IDS;
 
 // Document 01, "Job text": an entry of the node table, X, L, H and T (1 for `h`, 2 for `v`, 3 for `b`).
-#[derive(Drop)]
+#[derive(Clone, Copy)]
 pub struct Node {
     pub x: u16,
     pub l: u16,
@@ -18,7 +20,7 @@ pub struct Node {
 }
 
 // The values of a line `(node I X (L H) T)`.
-#[derive(Drop)]
+#[derive(Clone, Copy)]
 pub struct NodeValues {
     pub id: u32,
     pub x: u32,
@@ -28,14 +30,14 @@ pub struct NodeValues {
 }
 
 // The number of each id's row and column, by id.
-#[derive(Drop)]
+#[derive(Clone, Copy)]
 pub struct WireTable {
     pub rows: [u16; MAX_IDS],
     pub columns: [u16; MAX_IDS],
 }
 
 // R and C.
-#[derive(Drop)]
+#[derive(Clone, Copy)]
 pub struct Dimensions {
     pub rows: u16,
     pub columns: u16,

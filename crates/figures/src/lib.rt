@@ -1,4 +1,6 @@
 // Figures, words and lines in bytes.
+#![tactic(auto)]
+
 ghost use Rattle.std.specs.Prelude.{◌≡◌, ◌+◌, ◌≤◌, get_or, length};
 ghost use Rattle.figures.specs.Figure.{is_digit, decimal};
 ghost use Rattle.figures.specs.Line.{line_end};
@@ -50,7 +52,7 @@ pub const NINE: u8 = 57;
 pub const MAX_DIGITS: usize = 5;
 
 // The figure that stands at a position, with the position past it, or that there is none.
-#[derive(Drop)]
+#[derive(Clone, Copy)]
 pub enum Figure {
     At { value: u32, next: usize },
     Missing,
@@ -121,7 +123,7 @@ pub fn word_past(text: &[u8], at: usize, word: &[u8]) -> usize
 }
 
 // A value that was read at a position, and the position past it; 0 and nowhere where there is none.
-#[derive(Drop)]
+#[derive(Clone, Copy)]
 pub struct Past {
     pub value: u32,
     pub next: usize,

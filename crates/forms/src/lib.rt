@@ -1,4 +1,6 @@
 // The lines of a job and of a listing.
+#![tactic(auto)]
+
 pub mod write;
 
 ghost use Rattle.std.specs.Prelude.{◌≡◌};
@@ -12,7 +14,7 @@ use common::{LABEL_B, LABEL_H, LABEL_V, Refusal};
 use figures::{NOWHERE, Past, any_figure_past, figure_past, word_past};
 
 // Document 01, "Job text": `(job V N K)`.
-#[derive(Drop)]
+#[derive(Clone, Copy)]
 pub struct JobForm {
     pub switches: u32,
     pub nodes: u32,
@@ -20,7 +22,7 @@ pub struct JobForm {
 }
 
 // `(node I X (L H) T)`, with the label T as 1 for `h`, 2 for `v`, 3 for `b`.
-#[derive(Drop)]
+#[derive(Clone, Copy)]
 pub struct NodeForm {
     pub id: u32,
     pub x: u32,
@@ -30,14 +32,14 @@ pub struct NodeForm {
 }
 
 // `(out J I)`, and in a listing `(out J r)`.
-#[derive(Drop)]
+#[derive(Clone, Copy)]
 pub struct OutForm {
     pub number: u32,
     pub target: u32,
 }
 
 // Document 01, "Listing": `(crossbar R C V K)`.
-#[derive(Drop)]
+#[derive(Clone, Copy)]
 pub struct SizeForm {
     pub rows: u32,
     pub columns: u32,
@@ -46,7 +48,7 @@ pub struct SizeForm {
 }
 
 // `(cell r c (on))`, `(cell r c (yes x))` or `(cell r c (no x))`.
-#[derive(Drop)]
+#[derive(Clone, Copy)]
 pub struct CellForm {
     pub row: u32,
     pub column: u32,
@@ -54,7 +56,7 @@ pub struct CellForm {
 }
 
 // Document 01, "Job text": "Each line yields one form, or a refusal with its number and line". One holds the label of `(one T)`.
-#[derive(Drop)]
+#[derive(Clone, Copy)]
 pub enum Form {
     Job(JobForm),
     One(u32),
@@ -88,7 +90,7 @@ fn switch_of(x: u32) -> u8
 }
 
 // A line read as the form that is due: the form, or the refusal with ground 1, and the position past its line feed, 0 after a refusal.
-#[derive(Drop)]
+#[derive(Clone, Copy)]
 pub struct LineRead {
     pub form: Form,
     pub next: usize,

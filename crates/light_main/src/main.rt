@@ -1,6 +1,8 @@
 // Document 01, "Two programs": reads a set line and a listing from standard input, and prints the count of rounds and what each output
 // reads, or `(refused n line)`. The buffer for the input has one byte more than an input may have, so that a longer input is refused as
 // such.
+#![tactic(auto)]
+
 ghost use Rattle.std.specs.Prelude.{◌≡◌};
 ghost use Rattle.programs.specs.Programs.{light_program};
 

@@ -1,3 +1,5 @@
 // Listings: a crossbar's text, printed and loaded.
+#![tactic(auto)]
+
 pub mod loading;
 pub mod printing;

@@ -16,21 +16,21 @@ use forms::{CellForm, Form, OutForm, SizeForm};
 const MISPLACED: u32 = 12;
 
 // What load answers: the refusal, and the record.
-#[derive(Drop)]
+#[derive(Clone, Copy)]
 pub struct Loaded {
     pub refusal: Refusal,
     pub head: Crossbar,
 }
 
 // Where the cell lines end: the position and the number of the first other line, or the refusal of a cell line.
-#[derive(Drop)]
+#[derive(Clone, Copy)]
 enum Reached {
     Line { at: usize, line: u32 },
     Refused(Refusal),
 }
 
 // What the output lines and the last line give: the output rows, or the refusal of a line.
-#[derive(Drop)]
+#[derive(Clone, Copy)]
 struct Outputs {
     ok: bool,
     refusal: Refusal,

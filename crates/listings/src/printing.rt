@@ -13,7 +13,7 @@ use common::{MAX_OUTPUTS, Refusal};
 use forms::write::{write_end, write_no, write_on, write_out, write_size, write_yes};
 
 // What print answers: the refusal, and the text's length.
-#[derive(Drop)]
+#[derive(Clone, Copy)]
 pub struct Printed {
     pub refusal: Refusal,
     pub length: usize,

@@ -1,5 +1,7 @@
 // Document 01, "Two programs": reads a job from standard input and prints the listing, or `(refused n line)`. The buffer for the input
 // has one byte more than an input may have, so that a longer input is refused as such.
+#![tactic(auto)]
+
 ghost use Rattle.std.specs.Prelude.{◌≡◌};
 ghost use Rattle.programs.specs.Programs.{map_program};
 

@@ -12,7 +12,7 @@ use diagram::table::{TABLE, entry_at};
 use diagram::wires::{has_column, has_row};
 
 // The edge from an id to its high child, or to its low one.
-#[derive(Drop)]
+#[derive(Clone, Copy)]
 pub struct Edge {
     pub id: usize,
     pub high: bool,

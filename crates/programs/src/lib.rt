@@ -1,4 +1,6 @@
 // What the two programs print.
+#![tactic(auto)]
+
 pub mod readings; // readings.rt: the lines that a program prints
 pub mod setting; // setting.rt: the set line
 

@@ -13,7 +13,7 @@ const BLANK: u8 = 32;
 const CLOSE: u8 = 41;
 
 // The figures of the set line, zeros past them, or its refusal where it is missing or not the form due.
-#[derive(Drop)]
+#[derive(Clone, Copy)]
 pub struct SetLine {
     pub refusal: Refusal,
     pub count: usize,

@@ -1,5 +1,7 @@
 // Standard input and output of the two programs, with a word on standard error where reading or writing fails. A program has no exit
 // status of its own, so that word is all that tells of it.
+#![tactic(auto)]
+
 ghost use Rattle.std.specs.Prelude.{◌+◌, ◌≤◌, length};
 ghost use Rattle.io.specs.Counts.{IsPrefixLen};
 

@@ -1,0 +1,30 @@
+-- `crossbar::crossbar_light` meets its contract: a slice that holds no record is refused, and otherwise light answers.
+use mathlib.Core.Path.{sym, ◌∙◌}
+use Rattle.cells.proofs.Every.{held, broken}
+use Rattle.common.specs.Outcome.{most_number}
+use Rattle.crossbar.proofs.Calls.{light_refused, light-numbers, light_answered}
+use Rattle.crossbar.proofs.Records.{holds_enough}
+use borrow.Author.Rules.{rules}
+use Rattle.crossbar.proofs.crossbar_light.Goals as goal
+
+pub refuse-requires : goal.refuse-requires
+unfolding most_number
+refuse-requires c = search rules
+
+pub returns-then-not-holds_record : goal.returns-then-not-holds_record
+returns-then-not-holds_record c =
+    light_refused c.args.head.now c.args.cells.now c.args.setting.now c.args.firsts.now _ _
+    (sym c.holds_record.ensures ∙ c.if-not-holds_record.true) c.refuse.ensures.0 c.refuse.ensures.1
+
+pub read_record-requires : goal.read_record-requires
+read_record-requires c = holds_enough _ (sym c.holds_record.ensures ∙ c.if-not-holds_record.false)
+
+pub pack-requires : goal.pack-requires
+pack-requires c =
+    light-numbers _ _ _ c.args.firsts.now _ _ c.light_bytes-lit.ensures
+
+pub returns : goal.returns
+returns c =
+    light_answered c.read_record.result c.args.cells.now c.args.setting.now c.args.firsts.now _
+    c.light_bytes-lit.result c.light_bytes-lit.ensures c.args.head.now c.pack.result (sym c.holds_record.ensures ∙ c.if-not-holds_record.false)
+    c.read_record.ensures c.pack.ensures

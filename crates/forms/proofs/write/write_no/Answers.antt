@@ -1,0 +1,14 @@
+-- `forms::write::write_no` meets its contract: its calls write the parts of the line.
+use Rattle.figures.specs.Bytes.{bytes}
+use Rattle.forms.specs.Forms.{no_form}
+use Rattle.forms.proofs.Parts.{last_part, then_part, written-line}
+use Rattle.forms.proofs.write.write_no.Goals as goal
+
+pub returns : goal.returns
+unfolding no_form bytes
+returns c =
+    written-line
+    (then_part c.put_figure-past_r.ensures
+    (then_part c.put_figure-past_c.ensures
+    (then_part c.put_figure-past_x.ensures
+    (last_part c.put_word.ensures))))

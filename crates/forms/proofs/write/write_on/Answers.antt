@@ -1,0 +1,13 @@
+-- `forms::write::write_on` meets its contract: its calls write the parts of the line.
+use Rattle.figures.specs.Bytes.{bytes}
+use Rattle.forms.specs.Forms.{on_form}
+use Rattle.forms.proofs.Parts.{last_part, then_part, written-line}
+use Rattle.forms.proofs.write.write_on.Goals as goal
+
+pub returns : goal.returns
+unfolding on_form bytes
+returns c =
+    written-line
+    (then_part c.put_figure-past_r.ensures
+    (then_part c.put_figure-past_c.ensures
+    (last_part c.put_word.ensures)))
