@@ -16,5 +16,5 @@ unfolding host_load
 returns c =
     let args = c.args in
     let beneath = load_beneath args.text.now (length args.cells.now) c.load-loaded.result _ c.load-loaded.ensures in
-    let long : length c.load-loaded.new.1.0 ≡ length args.cells.now = omega arith in
-    delivered _ _ _ _ _ _ _ _ _ beneath long c.deliver.ensures.0 c.deliver.ensures.1
+    let long : length c.load-loaded.new.cells ≡ length args.cells.now = omega arith in
+    delivered _ _ _ _ _ _ _ _ _ beneath long c.deliver.ensures.answer c.deliver.ensures.cells_left

@@ -16,5 +16,5 @@ unfolding host_map
 returns c =
     let args = c.args in
     let beneath = map_beneath args.text.now args.cells.now _ c.map-mapped.result c.map-mapped.ensures in
-    let long : length c.map-mapped.new.1.0 ≡ length args.cells.now = omega arith in
-    delivered _ _ _ _ _ _ _ _ _ beneath long c.deliver.ensures.0 c.deliver.ensures.1
+    let long : length c.map-mapped.new.cells ≡ length args.cells.now = omega arith in
+    delivered _ _ _ _ _ _ _ _ _ beneath long c.deliver.ensures.answer c.deliver.ensures.cells_left

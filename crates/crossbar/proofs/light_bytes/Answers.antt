@@ -25,27 +25,27 @@ slice_bounds-light-end c =
 
 pub slice_bounds-write_numbers-end : goal.slice_bounds-write_numbers-end
 slice_bounds-write_numbers-end c =
-    let kept : length c.light.last.1.1.1.0 ≡ c.smaller2.result = c.light.kept.1.1.1.0 ∙ sym (slice-aggregate-light c) in
-    lent_within c.smaller2.result c.light.last.1.1.1.0 _ kept
+    let kept : length c.light-lit.new.firsts ≡ c.smaller-room.result = c.light-lit.auto.firsts ∙ sym (slice-aggregate-light c) in
+    lent_within c.smaller-room.result c.light-lit.new.firsts _ kept
 
 pub write_numbers-requires : goal.write_numbers-requires
 unfolding max_rows max_columns
 write_numbers-requires c =
     let args = c.args in
-    let k = c.smaller2.result in
-    let kept : length c.light.last.1.1.1.0 ≡ k = c.light.kept.1.1.1.0 ∙ sym (slice-aggregate-light c) in
-    let is = lent_by args.x (length args.firsts.now) _ _ c.smaller.ensures c.smaller2.ensures in
+    let k = c.smaller-room.result in
+    let kept : length c.light-lit.new.firsts ≡ k = c.light-lit.auto.firsts ∙ sym (slice-aggregate-light c) in
+    let is = lent_by args.x (length args.firsts.now) _ _ c.smaller-wires.ensures c.smaller-room.ensures in
     let most = lent_most args.x (length args.firsts.now) in
-    rw (lent_front k c.light.last.1.1.1.0 _ kept) (omega (arith, kept, is, most))
+    rw (lent_front k c.light-lit.new.firsts _ kept) (omega (arith, kept, is, most))
 
 pub returns : goal.returns
 unfolding max_rows max_columns
 returns c =
     let args = c.args in
-    let k = c.smaller2.result in
+    let k = c.smaller-room.result in
     let front : length (take k (zeros (max_rows + max_columns))) ≡ k = sym (slice-aggregate-light c) in
-    let kept : length c.light.last.1.1.1.0 ≡ k = c.light.kept.1.1.1.0 ∙ front in
-    light-bytes args.x args.cells.now args.setting.now args.firsts.now _ c.light.last.1.1.1.0 k c.light.result
-    (lent_by args.x (length args.firsts.now) _ _ c.smaller.ensures c.smaller2.ensures)
-    (rw front at c.light.ensures)
-    (c.write_numbers.ensures ∙ ap (λ (l : List ℕ). padded (length args.firsts.now) (pairs l)) (lent_front k c.light.last.1.1.1.0 _ kept))
+    let kept : length c.light-lit.new.firsts ≡ k = c.light-lit.auto.firsts ∙ front in
+    light-bytes args.x args.cells.now args.setting.now args.firsts.now _ c.light-lit.new.firsts k c.light-lit.result
+    (lent_by args.x (length args.firsts.now) _ _ c.smaller-wires.ensures c.smaller-room.ensures)
+    (rw front at c.light-lit.ensures)
+    (c.write_numbers.ensures ∙ ap (λ (l : List ℕ). padded (length args.firsts.now) (pairs l)) (lent_front k c.light-lit.new.firsts _ kept))

@@ -11,7 +11,7 @@ pub returns-then-past_on : goal.returns-then-past_on
 unfolding on_form bytes
 returns-then-past_on c =
     c.cell_or_refusal.ensures
-    ∙ cell_on _ _ _ (omega (arith, c.well-formed))
+    ∙ cell_on _ _ _ (omega (arith, c.well_formed))
     (cell_run c.word_past-head.ensures
     c.figure_past-row.ensures
     c.word_past-mid.ensures
@@ -24,7 +24,7 @@ unfolding on_form yes_form bytes
 returns-then-past_yes c =
     c.cell_or_refusal-then-past_yes.ensures
     ∙ rw c.switch_of-x.ensures
-    (cell_yes _ _ _ (omega (arith, c.well-formed))
+    (cell_yes _ _ _ (omega (arith, c.well_formed))
     (cell_run c.word_past-head.ensures
     c.figure_past-row.ensures
     c.word_past-mid.ensures
@@ -43,7 +43,7 @@ unfolding on_form yes_form no_form bytes
 returns c =
     c.cell_or_refusal-2.ensures
     ∙ rw c.switch_of-x-2.ensures
-    (cell_no _ _ _ (omega (arith, c.well-formed))
+    (cell_no _ _ _ (omega (arith, c.well_formed))
     (cell_run c.word_past-head.ensures
     c.figure_past-row.ensures
     c.word_past-mid.ensures

@@ -12,5 +12,5 @@ pub returns : goal.returns
 unfolding end_form end_from bytes
 returns c =
     c.form_or_refusal.ensures
-    ∙ read_run end_form end_from _ _ _ end_apart (omega (arith, c.well-formed))
+    ∙ read_run end_form end_from _ _ _ end_apart (omega (arith, c.well_formed))
     (last_word c.word_past-next.ensures)

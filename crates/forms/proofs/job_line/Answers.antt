@@ -12,7 +12,7 @@ pub returns : goal.returns
 unfolding job_form job_from bytes
 returns c =
     c.form_or_refusal.ensures
-    ∙ read_run job_form job_from _ _ _ job_apart (omega (arith, c.well-formed))
+    ∙ read_run job_form job_from _ _ _ job_apart (omega (arith, c.well_formed))
     (then_word c.word_past-head.ensures
     (then_figure c.any_figure_past-v.ensures
     (then_word c.word_past-mid.ensures

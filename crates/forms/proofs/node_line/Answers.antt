@@ -12,7 +12,7 @@ pub returns : goal.returns
 unfolding node_form node_from bytes
 returns c =
     c.form_or_refusal.ensures
-    ∙ read_run node_form node_from _ _ _ node_apart (omega (arith, c.well-formed))
+    ∙ read_run node_form node_from _ _ _ node_apart (omega (arith, c.well_formed))
     (then_word c.word_past-head.ensures
     (then_figure c.figure_past-id.ensures
     (then_word c.word_past-to_x.ensures

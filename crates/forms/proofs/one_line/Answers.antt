@@ -12,7 +12,7 @@ pub returns : goal.returns
 unfolding one_form one_from bytes
 returns c =
     c.form_or_refusal.ensures
-    ∙ read_run one_form one_from _ _ _ one_apart (omega (arith, c.well-formed))
+    ∙ read_run one_form one_from _ _ _ one_apart (omega (arith, c.well_formed))
     (then_word c.word_past-head.ensures
     (then_label c.label_past-t.ensures
     (last_word c.word_past-next.ensures)))

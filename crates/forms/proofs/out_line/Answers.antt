@@ -12,7 +12,7 @@ pub returns : goal.returns
 unfolding out_form out_from bytes
 returns c =
     c.form_or_refusal.ensures
-    ∙ read_run out_form out_from _ _ _ out_apart (omega (arith, c.well-formed))
+    ∙ read_run out_form out_from _ _ _ out_apart (omega (arith, c.well_formed))
     (then_word c.word_past-head.ensures
     (then_figure c.figure_past-j.ensures
     (then_word c.word_past-mid.ensures

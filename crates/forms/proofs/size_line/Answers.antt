@@ -12,7 +12,7 @@ pub returns : goal.returns
 unfolding crossbar_form size_from bytes
 returns c =
     c.form_or_refusal.ensures
-    ∙ read_run crossbar_form size_from _ _ _ crossbar_apart (omega (arith, c.well-formed))
+    ∙ read_run crossbar_form size_from _ _ _ crossbar_apart (omega (arith, c.well_formed))
     (then_word c.word_past-head.ensures
     (then_figure c.any_figure_past-r.ensures
     (then_word c.word_past-to_c.ensures

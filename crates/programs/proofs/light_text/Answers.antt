@@ -42,8 +42,8 @@ returns-then-refusal-ne0-2 c =
 pub returns : goal.returns
 unfolding max_rows max_columns max_input
 returns c =
-    let l = set_is _ c.if1.false _ c.set_line.ensures c.if2.false in
+    let l = set_is _ c.if-input-gt-MAX_INPUT.false _ c.set_line-set.ensures c.if-refusal-ne0.false in
     let t = figures-taken l.0 _ l.2 in
     said_as _ _ _ _ _
-    (loaded-prints _ c.if1.false l.0 l.1 _ c.line-end.ensures _ _ _ c.load_from.ensures refl c.if3.false)
+    (loaded-prints _ c.if-input-gt-MAX_INPUT.false l.0 l.1 _ c.line_end-next.ensures _ _ _ c.load_from-loaded.ensures refl c.if-refusal-ne0-2.false)
     (rw t at c.light_and_read.ensures)

@@ -14,7 +14,7 @@ read_some-more-requires c = c.loop-n.invariant.0
 
 pub loop-n-preserved : goal.loop-n-preserved
 loop-n-preserved c =
-    (omega arith, c.read_Some.auto.0 ∙ c.loop-n.invariant.1)
+    (omega arith, c.read_some-more.auto.input ∙ c.loop-n.invariant.1)
 
 pub shape_of-input-after-loop-n : goal.shape_of-input-after-loop-n
 shape_of-input-after-loop-n c = c.loop-n.invariant.1
@@ -26,9 +26,9 @@ returns-after-loop-n c =
 
 pub shape_of-input-then-more-eq0 : goal.shape_of-input-then-more-eq0
 shape_of-input-then-more-eq0 c =
-    c.read_Some.auto.0 ∙ c.loop-n.invariant.1
+    c.read_some-more.auto.input ∙ c.loop-n.invariant.1
 
 pub returns-then-more-eq0 : goal.returns-then-more-eq0
 returns-then-more-eq0 c =
-    let within : c.loop-n.n ≤ length c.read_Some.new.0 = omega arith in
+    let within : c.loop-n.n ≤ length c.read_some-more.new.input = omega arith in
     (within, sym (length-take-le _ _ within))

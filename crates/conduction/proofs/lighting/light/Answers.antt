@@ -58,15 +58,15 @@ returns-then-m-n c =
     let refused = c.refuse-then-m-n in
     let lit = c.light_wires-t in
     let args = c.args in
-    answers_15 args.x args.cells.now args.setting.now args.firsts.now _ _ lit.result lit.new.1.1.1.1.0
+    answers_15 args.x args.cells.now args.setting.now args.firsts.now _ _ lit.result lit.new.firsts
     (sym c.is_sound-sound.ensures ∙ c.if-not-sound.false) (sym c.is_setting-fits.ensures ∙ c.if-not-fits.false)
     c.if-firsts-m.false lit.ensures c.if-m-n.true refused.ensures.0
-    (refused.ensures.1 ∙ ap zeros lit.auto.1.1.1.1.0)
+    (refused.ensures.1 ∙ ap zeros lit.auto.firsts)
 
 pub returns : goal.returns
 returns c =
     let lit = c.light_wires-t in
     let args = c.args in
-    answers_done args.x args.cells.now args.setting.now args.firsts.now lit.new.1.1.1.1.0 _ lit.result lit.new.1.1.1.1.0
+    answers_done args.x args.cells.now args.setting.now args.firsts.now lit.new.firsts _ lit.result lit.new.firsts
     (sym c.is_sound-sound.ensures ∙ c.if-not-sound.false) (sym c.is_setting-fits.ensures ∙ c.if-not-fits.false)
     c.if-firsts-m.false lit.ensures c.if-m-n.false refl refl

@@ -7,6 +7,7 @@ use lib.ListN.{length, length-set}
 use Rattle.conduction.specs.Wires.{adds_of, passes}
 use Rattle.conduction.proofs.Sorting.{sorted_none, sorted_pass, sorted_name}
 use Rattle.conduction.proofs.spreading.sort.Goals as goal
+use Rattle.conduction.proofs.spreading.sort.Goals.{then-passes, else-passes}
 
 pub loop-i-init : goal.loop-i-init
 loop-i-init c =
@@ -34,21 +35,21 @@ loop-i-preserved c =
     let i = c.loop-i.i in
     let wires = c.loop-i.wires in
     let named = c.passes.ensures ∙ ap (λ (x : ℕ). passes c.args.on.now c.args.cells.now (c.args.adds + x)) c.adds_of.ensures in
-    ⊎_elim
-    (λ came. (
-      ap length came.2 ∙ simp length-set c.loop-i.invariant.0,
+    elim c.if-passes.branch [
+      then-passes w ↦ (
+      ap length w.wires-is ∙ simp length-set c.loop-i.invariant.0,
       omega arith,
-      rw (came.2, came.3)
-          (sorted_name _ _ _ _ _ _ c.loop-i.invariant.2 c.loop-i.invariant.0 (omega (arith, c.requires.within)) (sym named ∙ came.0.taken)),
-    ))
-    (λ came. (
-      ap length came.1 ∙ c.loop-i.invariant.0,
+      rw (w.wires-is, w.lit-is)
+          (sorted_name _ _ _ _ _ _ c.loop-i.invariant.2 c.loop-i.invariant.0 (omega (arith, c.requires.within)) (sym named ∙ w.if-passes.true)),
+    )
+      | else-passes w ↦ (
+      ap length w.wires-is ∙ c.loop-i.invariant.0,
       omega arith,
-      rw (came.1, came.2)
+      rw (w.wires-is, w.lit-is)
           (sorted_pass _ _ _ _ _ _ c.loop-i.invariant.2 _ (omega arith)
-          (λ k p q. let at : k ≡ i = omega arith in rw at (sym named ∙ came.0.left))),
-    ))
-    c.if-passes.branch
+          (λ k p q. let at : k ≡ i = omega arith in rw at (sym named ∙ w.if-passes.false))),
+    )
+    ]
 
 pub shape_of-wires : goal.shape_of-wires
 shape_of-wires c = c.loop-i.invariant.0

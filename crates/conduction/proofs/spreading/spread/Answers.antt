@@ -35,7 +35,7 @@ reach-lit-requires c =
 pub loop-i-preserved : goal.loop-i-preserved
 loop-i-preserved c =
     let inv = c.loop-i.invariant in (
-      c.reach-lit.auto.1.1.1.0 ∙ inv.0,
+      c.reach-lit.auto.wires ∙ inv.0,
       omega (arith, inv.1),
       omega arith,
       spread_more _ _ _ _ _ _ _ _ _ _ _ _ inv.1 c.adds_of.ensures inv.0 inv.3 c.reach-lit.ensures,

@@ -5,7 +5,7 @@ use Rattle.conduction.proofs.stamping.round.Goals as goal
 
 pub spread-end-requires : goal.spread-end-requires
 spread-end-requires c =
-    spread_across _ _ _ _ _ _ _ _ _ c.requires.fits.0 c.requires.standing c.if1.true
+    spread_across _ _ _ _ _ _ _ _ _ c.requires.fits.0 c.requires.standing c.if-t-eq0.true
 
 pub overflow_add-t : goal.overflow_add-t
 overflow_add-t c =
@@ -13,19 +13,21 @@ overflow_add-t c =
 
 pub mark-requires : goal.mark-requires
 mark-requires c =
-    mark_across _ _ _ _ _ _ _ _ _ c.requires.fits.0 c.requires.standing c.if1.true _ _ _ c.spread.auto.1.1.1.0 c.spread.ensures
+    mark_across _ _ _ _ _ _ _ _ _ c.requires.fits.0 c.requires.standing c.if-t-eq0.true _ _ _ c.spread-end.auto.wires c.spread-end.ensures
 
--- asks new_wires, ready
 pub returns-then-t-eq0 : goal.returns-then-t-eq0
 returns-then-t-eq0 c =
     let turned =
-    turn_across _ _ _ _ _ _ _ _ _ _ _ c.requires.fits.0 c.requires.standing c.requires.stamps_value c.mark.auto.0 _ c.if1.true c.spread.auto.1.1.1.0 c.spread.ensures
+    turn_across _ _ _ _ _ _ _ _ _ _ _ c.requires.fits.0 c.requires.standing c.requires.stamps_value c.mark.auto.stamps _ c.if-t-eq0.true c.spread-end.auto.wires c.spread-end.ensures
     c.mark.ensures in
-    (turned.rounded, turned.standing)
+    record {
+      new_wires = turned.rounded;
+      ready = turned.standing;
+    }
 
 pub spread-end-requires-2 : goal.spread-end-requires-2
 spread-end-requires-2 c =
-    spread_back _ _ _ _ _ _ _ _ _ c.requires.fits.0 c.requires.standing c.if1.false
+    spread_back _ _ _ _ _ _ _ _ _ c.requires.fits.0 c.requires.standing c.if-t-eq0.false
 
 pub overflow_add-t-2 : goal.overflow_add-t-2
 overflow_add-t-2 c =
@@ -33,12 +35,14 @@ overflow_add-t-2 c =
 
 pub mark-requires-2 : goal.mark-requires-2
 mark-requires-2 c =
-    mark_back _ _ _ _ _ _ _ _ _ c.requires.fits.0 c.requires.standing c.if1.false _ _ _ c.spread2.auto.1.1.1.0 c.spread2.ensures
+    mark_back _ _ _ _ _ _ _ _ _ c.requires.fits.0 c.requires.standing c.if-t-eq0.false _ _ _ c.spread-end-2.auto.wires c.spread-end-2.ensures
 
--- asks new_wires, ready
 pub returns : goal.returns
 returns c =
     let turned =
-    turn_back _ _ _ _ _ _ _ _ _ _ _ c.requires.fits.0 c.requires.standing c.requires.stamps_value c.mark-2.auto.0 _ c.if1.false c.spread2.auto.1.1.1.0 c.spread2.ensures
+    turn_back _ _ _ _ _ _ _ _ _ _ _ c.requires.fits.0 c.requires.standing c.requires.stamps_value c.mark-2.auto.stamps _ c.if-t-eq0.false c.spread-end-2.auto.wires c.spread-end-2.ensures
     c.mark-2.ensures in
-    (turned.rounded, turned.standing)
+    record {
+      new_wires = turned.rounded;
+      ready = turned.standing;
+    }

@@ -45,13 +45,16 @@ overflow_cast-wires c =
 pub loop-t-init : goal.loop-t-init
 loop-t-init c =
     running_start _ _ _ _ _ _ _ _ _ _ c.requires.fits c.requires.fits.row_0 refl refl refl c.line_up.ensures c.line_up-2.ensures
-    c.line_up.auto.0 c.line_up-2.auto.0 c.requires.stamps_value
+    c.line_up.auto.wires c.line_up-2.auto.wires c.requires.stamps_value
 
--- asks fits, standing, stamps_value
 pub round-end-requires : goal.round-end-requires
 round-end-requires c =
     let running = c.loop-t.invariant in
-    ((running.fits, omega (arith, running.long_rows, running.long_columns, c.if-wires-t.false)), (running.standing, running_so_far _ _ _ _ _ _ _ _ _ _ _ _ running))
+    record {
+      fits = (running.fits, omega (arith, running.long_rows, running.long_columns, c.if-wires-t.false));
+      standing = running.standing;
+      stamps_value = running_so_far _ _ _ _ _ _ _ _ _ _ _ _ running;
+    }
 
 pub overflow_add-t : goal.overflow_add-t
 unfolding max_rows max_columns
@@ -65,8 +68,8 @@ loop-t-smaller c =
 
 pub loop-t-preserved : goal.loop-t-preserved
 loop-t-preserved c =
-    running_on _ _ _ _ _ _ _ _ _ _ _ _ c.loop-t.invariant _ _ _ _ (record { rounded = c.round-end.ensures.0; standing = c.round-end.ensures.1 }) c.if-end-dark.false c.if-wires-t.false
-    c.round-end.auto.1.1.0 c.round-end.auto.1.1.1.0 c.round-end.auto.1.1.1.1.0
+    running_on _ _ _ _ _ _ _ _ _ _ _ _ c.loop-t.invariant _ _ _ _ (record { rounded = c.round-end.ensures.new_wires; standing = c.round-end.ensures.ready }) c.if-end-dark.false c.if-wires-t.false
+    c.round-end.auto.rows c.round-end.auto.columns c.round-end.auto.stamps
 
 pub shape_of-rows-then-wires-t : goal.shape_of-rows-then-wires-t
 shape_of-rows-then-wires-t c = c.loop-t.invariant.long_rows
@@ -82,16 +85,16 @@ returns-then-wires-t c = running_none _ _ _ _ _ _ _ _ _ _ _ _ c.loop-t.invariant
 
 pub shape_of-rows-then-end-dark : goal.shape_of-rows-then-end-dark
 shape_of-rows-then-end-dark c =
-    c.round-end.auto.1.1.0 ∙ c.loop-t.invariant.long_rows
+    c.round-end.auto.rows ∙ c.loop-t.invariant.long_rows
 
 pub shape_of-columns-then-end-dark : goal.shape_of-columns-then-end-dark
 shape_of-columns-then-end-dark c =
-    c.round-end.auto.1.1.1.0 ∙ c.loop-t.invariant.long_columns
+    c.round-end.auto.columns ∙ c.loop-t.invariant.long_columns
 
 pub shape_of-stamps-then-end-dark : goal.shape_of-stamps-then-end-dark
 shape_of-stamps-then-end-dark c =
-    c.round-end.auto.1.1.1.1.0 ∙ c.loop-t.invariant.long_stamps
+    c.round-end.auto.stamps ∙ c.loop-t.invariant.long_stamps
 
 pub returns-then-end-dark : goal.returns-then-end-dark
 returns-then-end-dark c =
-    running_rest _ _ _ _ _ _ _ _ _ _ _ _ c.loop-t.invariant _ _ _ _ (record { rounded = c.round-end.ensures.0; standing = c.round-end.ensures.1 }) c.if-end-dark.true
+    running_rest _ _ _ _ _ _ _ _ _ _ _ _ c.loop-t.invariant _ _ _ _ (record { rounded = c.round-end.ensures.new_wires; standing = c.round-end.ensures.ready }) c.if-end-dark.true

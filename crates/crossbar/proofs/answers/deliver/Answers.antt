@@ -11,30 +11,30 @@ use Rattle.crossbar.proofs.Deliveries.{written_refused, written_short, written_d
 use borrow.Author.Rules.{rules}
 use Rattle.crossbar.proofs.answers.deliver.Goals as goal
 
--- asks answer, cells_left
 pub returns-then-refusal-ne0 : goal.returns-then-refusal-ne0
 returns-then-refusal-ne0 c =
     let args = c.args in
-    let some = c.if-refusal-ne0.true in (
-      written_refused args.refusal args.x (length args.head.now) c.pack.result _ some c.pack.ensures c.clear.ensures,
-      left_refused args.refusal (length args.head.now) args.cells.now some,
-    )
+    let some = c.if-refusal-ne0.true in
+    record {
+      answer = written_refused args.refusal args.x (length args.head.now) c.pack.result _ some c.pack.ensures c.clear.ensures;
+      cells_left = left_refused args.refusal (length args.head.now) args.cells.now some;
+    }
 
 pub refuse-requires : goal.refuse-requires
 unfolding most_number
 refuse-requires c = search rules
 
--- asks answer, cells_left
 pub returns-then-head-lt-RECORD_BYTES : goal.returns-then-head-lt-RECORD_BYTES
 unfolding record_length max_outputs
 returns-then-head-lt-RECORD_BYTES c =
     let args = c.args in
     let none = c.if-refusal-ne0.false in
-    let short = c.if-head-lt-RECORD_BYTES.true in (
-      written_short args.refusal args.x (length args.head.now) c.refuse.result _ none short
-          c.refuse.ensures.0 c.refuse.ensures.1,
-      c.clear-then-head-lt-RECORD_BYTES.ensures ∙ left_short args.refusal (length args.head.now) args.cells.now none short,
-    )
+    let short = c.if-head-lt-RECORD_BYTES.true in
+    record {
+      answer = written_short args.refusal args.x (length args.head.now) c.refuse.result _ none short
+          c.refuse.ensures.0 c.refuse.ensures.1;
+      cells_left = c.clear-then-head-lt-RECORD_BYTES.ensures ∙ left_short args.refusal (length args.head.now) args.cells.now none short;
+    }
 
 pub write_record-requires : goal.write_record-requires
 unfolding record_length max_outputs
@@ -46,13 +46,13 @@ overflow_mul-result c =
     let rows : x.rows ≤ 65535 = omega arith in
     record { fits = omega (arith, mul-le-mul_right x.columns rows) }
 
--- asks answer, cells_left
 pub returns : goal.returns
 unfolding record_length max_outputs
 returns c =
     let args = c.args in
     let none = c.if-refusal-ne0.false in
-    let room = c.if-head-lt-RECORD_BYTES.false in (
-      written_done args.refusal args.x (length args.head.now) _ _ none room refl c.write_record.ensures,
-      left_done args.refusal (length args.head.now) args.cells.now none room,
-    )
+    let room = c.if-head-lt-RECORD_BYTES.false in
+    record {
+      answer = written_done args.refusal args.x (length args.head.now) _ _ none room refl c.write_record.ensures;
+      cells_left = left_done args.refusal (length args.head.now) args.cells.now none room;
+    }

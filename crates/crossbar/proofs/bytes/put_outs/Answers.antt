@@ -16,7 +16,7 @@ loop-j-init c = (omega arith, omega arith, omega arith, refl)
 
 pub loop-j-preserved : goal.loop-j-preserved
 loop-j-preserved c =
-    let outs = c.args.t2 in
+    let outs = c.args.outs in
     let j = c.loop-j.j in
     let within : j < length outs = omega arith in (
       omega arith,
@@ -30,6 +30,6 @@ loop-j-preserved c =
 pub returns : goal.returns
 unfolding record_length max_outputs
 returns c =
-    let outs = c.args.t2 in
+    let outs = c.args.outs in
     let all : length outs ≤ c.loop-j.j = omega arith in
     c.loop-j.invariant.3 ∙ ap (λ (l : List ℕ). with_numbers c.args.out.now 4 l) (take_all c.loop-j.j outs all)

@@ -12,8 +12,8 @@ use Rattle.crossbar.proofs.bytes.write_numbers.Goals as goal
 
 pub loop-i-init : goal.loop-i-init
 loop-i-init c =
-    let same : length c.clear.new.0 ≡ length c.args.bytes.now = c.clear.auto.0 in
-    (omega arith, omega (arith, c.requires), refl, c.clear.ensures ∙ ap zeros (sym same) ∙ no_numbers (length c.clear.new.0))
+    let same : length c.clear.new.out ≡ length c.args.bytes.now = c.clear.auto.out in
+    (omega arith, omega (arith, c.requires), refl, c.clear.ensures ∙ ap zeros (sym same) ∙ no_numbers (length c.clear.new.out))
 
 pub loop-i-preserved : goal.loop-i-preserved
 loop-i-preserved c =
@@ -25,7 +25,7 @@ loop-i-preserved c =
     let next : take (i + 1) numbers ≡ take i numbers ++ (get_or numbers i 0 ∷ []) = rw add-one (take-suc numbers i 0 within) in (
       omega arith,
       inv.1,
-      c.put_number.auto.0 ∙ inv.2,
+      c.put_number.auto.out ∙ inv.2,
       c.put_number.ensures
           ∙ number_more _ i (get_or numbers i 0) (take i numbers) c.loop-i.bytes long (omega (arith, inv.1)) inv.3
           ∙ rw next,
@@ -33,7 +33,7 @@ loop-i-preserved c =
 
 pub returns : goal.returns
 returns c =
-    let same : length c.clear.new.0 ≡ length c.args.bytes.now = c.clear.auto.0 in
+    let same : length c.clear.new.out ≡ length c.args.bytes.now = c.clear.auto.out in
     let numbers = c.args.numbers.now in
     let all : length numbers ≤ c.loop-i.i = omega arith in
     c.loop-i.invariant.3 ∙ rw (take_all c.loop-i.i numbers all, same)

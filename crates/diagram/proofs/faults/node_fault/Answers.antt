@@ -55,12 +55,15 @@ pub overflow_cast-values-4 : goal.overflow_cast-values-4
 unfolding max_nodes
 overflow_cast-values-4 c = omega arith
 
--- asks n_le_max_nodes, terminals, marked
 pub later_fault-requires : goal.later_fault-requires
 unfolding tabled
 later_fault-requires c =
     let v = ap (λ (m : Node). m.x) c.entry_at-zero.ensures in
-    ((c.requires.n_le_max_nodes, omega arith, omega arith, omega arith), c.requires.terminals)
+    record {
+      n_le_max_nodes = (c.requires.n_le_max_nodes, omega arith, omega arith, omega arith);
+      terminals = c.requires.terminals;
+      marked = c.requires.marked;
+    }
 
 pub returns : goal.returns
 unfolding tabled node_given

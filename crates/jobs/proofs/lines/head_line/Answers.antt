@@ -4,11 +4,12 @@ use native.Mathlib.Omega.{arith}
 use Rattle.common.specs.Limits.{max_switches, max_nodes, max_outputs}
 use Rattle.forms.proofs.Cases.{not_job}
 use Rattle.jobs.proofs.Due.{head_none, head_stops, head_sized, head_goes}
+use borrow.Enum.Refused.{opened}
 use Rattle.jobs.proofs.lines.head_line.Goals as goal
 
 pub returns-in_default : goal.returns-in_default
 returns-in_default c =
-    c.no_head.ensures ∙ head_none _ _ _ _ c.job_line-read.ensures (not_job _ c.in_default.keys2) _ c.refusal_of.ensures
+    c.no_head.ensures ∙ head_none _ _ _ _ c.job_line-read.ensures (not_job _ (opened c.in_default.in_default-own.keys2)) _ c.refusal_of.ensures
 
 pub returns-then-number-ne0 : goal.returns-then-number-ne0
 returns-then-number-ne0 c =

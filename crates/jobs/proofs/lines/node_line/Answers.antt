@@ -7,11 +7,12 @@ use Rattle.diagram.specs.Table.{tabled, node_given}
 use Rattle.diagram.proofs.TableLaws.{id_count-tabled}
 use Rattle.forms.proofs.Cases.{not_node}
 use Rattle.jobs.proofs.Due.{node_none, node_most, node_stops, node_goes, node_below}
+use borrow.Enum.Refused.{opened}
 use Rattle.jobs.proofs.lines.node_line.Goals as goal
 
 pub returns-in_default : goal.returns-in_default
 returns-in_default c =
-    c.no_node.ensures ∙ node_none _ _ _ _ c.node_line-read.ensures _ (not_node _ c.in_default.keys2) _ c.refusal_of.ensures
+    c.no_node.ensures ∙ node_none _ _ _ _ c.node_line-read.ensures _ (not_node _ (opened c.in_default.in_default-own.keys2)) _ c.refusal_of.ensures
 
 pub overflow_cast-t : goal.overflow_cast-t
 overflow_cast-t c =

@@ -3,11 +3,12 @@ use mathlib.Core.Path.{◌∙◌}
 use native.Mathlib.Omega.{arith}
 use Rattle.forms.proofs.Cases.{not-one}
 use Rattle.jobs.proofs.Due.{one_none, one_most, one_stops, one_goes}
+use borrow.Enum.Refused.{opened}
 use Rattle.jobs.proofs.lines.one_line.Goals as goal
 
 pub returns-in_default : goal.returns-in_default
 returns-in_default c =
-    c.no_one.ensures ∙ one_none _ _ _ _ c.one_line-read.ensures (not-one _ c.in_default.keys2) _ c.refusal_of.ensures
+    c.no_one.ensures ∙ one_none _ _ _ _ c.one_line-read.ensures (not-one _ (opened c.in_default.in_default-own.keys2)) _ c.refusal_of.ensures
 
 pub overflow_cast-one : goal.overflow_cast-one
 overflow_cast-one c =

@@ -7,11 +7,12 @@ use Rattle.diagram.proofs.TableLaws.{id_count-tabled}
 use Rattle.forms.proofs.Cases.{not_out}
 use Rattle.jobs.proofs.Due.{out_none, out_stops, out_goes}
 use Rattle.diagram.proofs.Valid.{out_below}
+use borrow.Enum.Refused.{opened}
 use Rattle.jobs.proofs.lines.out_line.Goals as goal
 
 pub returns-in_default : goal.returns-in_default
 returns-in_default c =
-    c.no_out.ensures ∙ out_none _ _ _ _ c.out_line-read.ensures _ (not_out _ c.in_default.keys2) _ c.refusal_of.ensures
+    c.no_out.ensures ∙ out_none _ _ _ _ c.out_line-read.ensures _ (not_out _ (opened c.in_default.in_default-own.keys2)) _ c.refusal_of.ensures
 
 pub returns-then-number-ne0 : goal.returns-then-number-ne0
 returns-then-number-ne0 c =

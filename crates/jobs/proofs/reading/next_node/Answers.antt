@@ -12,18 +12,18 @@ returns-then-p c =
 
 pub returns-then-refusal-ne0 : goal.returns-then-refusal-ne0
 returns-then-refusal-ne0 c =
-    rw c.stopped.ensures (taken_stopped _ _ _ _ c.requires c.if1.false _ c.node_line-r.ensures c.if-refusal-ne0.true)
+    rw c.stopped.ensures (taken_stopped _ _ _ _ c.requires c.if-p.false _ c.node_line-r.ensures c.if-refusal-ne0.true)
 
 pub put_entry-requires : goal.put_entry-requires
 put_entry-requires c =
-    node_room _ _ _ _ c.requires c.if1.false _ c.node_line-r.ensures
+    node_room _ _ _ _ c.requires c.if-p.false _ c.node_line-r.ensures
 
 pub overflow_add-after-2 : goal.overflow_add-after-2
 unfolding max_nodes
 overflow_add-after-2 c =
-    omega (arith, c.requires.bounded.early, c.requires.bounded.nodes_most, c.if1.false)
+    omega (arith, c.requires.bounded.early, c.requires.bounded.nodes_most, c.if-p.false)
 
 pub returns : goal.returns
 unfolding found_at
 returns c =
-    rw (c.put_entry.ensures, c.mark.ensures) (taken_found _ _ _ _ c.requires c.if1.false _ c.node_line-r.ensures c.if-refusal-ne0.false)
+    rw (c.put_entry.ensures, c.mark.ensures) (taken_found _ _ _ _ c.requires c.if-p.false _ c.node_line-r.ensures c.if-refusal-ne0.false)

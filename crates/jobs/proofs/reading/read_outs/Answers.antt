@@ -17,9 +17,12 @@ pub overflow_add-line : goal.overflow_add-line
 unfolding max_nodes max_outputs
 overflow_add-line c = omega arith
 
--- asks n_le_max_nodes, terminals
 pub out_line-r-requires : goal.out_line-r-requires
-out_line-r-requires c = (c.requires.0, c.requires.3)
+out_line-r-requires c =
+    record {
+      n_le_max_nodes = c.requires.0;
+      terminals = c.requires.3;
+    }
 
 pub returns-then-refusal-ne0 : goal.returns-then-refusal-ne0
 returns-then-refusal-ne0 c =

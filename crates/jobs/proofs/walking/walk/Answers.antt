@@ -12,7 +12,7 @@ returns-then-refusal-ne0 c =
 
 pub returns-then-not-is_setting : goal.returns-then-not-is_setting
 returns-then-not-is_setting c =
-    c.no_Walk.ensures ∙ walk_unset _ _ _ _ c.read_diagram-read.ensures.answer c.if-refusal-ne0.false (sym c.is_setting.ensures ∙ c.if-not-is_setting.true)
+    c.no_walk.ensures ∙ walk_unset _ _ _ _ c.read_diagram-read.ensures.answer c.if-refusal-ne0.false (sym c.is_setting.ensures ∙ c.if-not-is_setting.true)
 
 pub returns-then-output-job : goal.returns-then-output-job
 returns-then-output-job c =
@@ -25,12 +25,15 @@ bounds-job-output c =
     let few = outs_few _ _ c.read_diagram-read.ensures.answer c.if-refusal-ne0.false in
     omega (arith, few, c.if-output-job.false)
 
--- asks n_le_max_nodes, terminals, falls
 pub walk_value-value-requires : goal.walk_value-value-requires
 walk_value-value-requires c =
     let read = c.read_diagram-read.ensures in
     let named = c.if-refusal-ne0.false in
-    (nodes_few _ _ read.answer named, (walk_terminals _ _ _ read named, walk_falls _ _ _ read named))
+    record {
+      n_le_max_nodes = nodes_few _ _ read.answer named;
+      terminals = walk_terminals _ _ _ read named;
+      falls = walk_falls _ _ _ read named;
+    }
 
 pub returns : goal.returns
 returns c =

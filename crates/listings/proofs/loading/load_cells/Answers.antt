@@ -7,6 +7,7 @@ use Rattle.common.specs.Limits.{max_rows, max_columns, max_input}
 use Rattle.forms.proofs.Cases.{not_cell}
 use Rattle.listings.proofs.Steps.{ranged}
 use Rattle.listings.proofs.Reader.{going_start, held, going_other, going_inside, going_fault, going_more, right}
+use borrow.Enum.Refused.{opened}
 use Rattle.listings.proofs.loading.load_cells.Goals as goal
 
 pub loop-f-init : goal.loop-f-init
@@ -22,7 +23,7 @@ pub returns-in_default : goal.returns-in_default
 returns-in_default c =
     let a = c.args in
     let z = ranged a.s c.requires.0 in
-    going_other c.loop-f.invariant z _ c.cell_line.ensures (not_cell _ c.in_default.keys2)
+    going_other c.loop-f.invariant z _ c.cell_line-read.ensures (not_cell _ (opened c.in_default.in_default-own.keys2))
 
 pub shape_of-cells-then-fault-ne0 : goal.shape_of-cells-then-fault-ne0
 shape_of-cells-then-fault-ne0 c =
@@ -34,7 +35,7 @@ pub returns-then-fault-ne0 : goal.returns-then-fault-ne0
 returns-then-fault-ne0 c =
     let a = c.args in
     let z = ranged a.s c.requires.0 in
-    going_fault c.loop-f.invariant z _ c.cell_line.ensures c.in-Cell.f c.in-Cell.is _ _ c.cell_fault-fault.ensures c.if-fault-ne0.true
+    going_fault c.loop-f.invariant z _ c.cell_line-read.ensures c.in-Cell.f c.in-Cell.is _ _ c.cell_fault-fault.ensures c.if-fault-ne0.true
 
 pub place_of-place-requires : goal.place_of-place-requires
 place_of-place-requires c =
@@ -71,11 +72,11 @@ pub loop-f-smaller : goal.loop-f-smaller
 loop-f-smaller c =
     let a = c.args in
     let z = ranged a.s c.requires.0 in
-    omega (arith, going_inside c.loop-f.invariant z _ c.cell_line.ensures c.in-Cell.f c.in-Cell.is)
+    omega (arith, going_inside c.loop-f.invariant z _ c.cell_line-read.ensures c.in-Cell.f c.in-Cell.is)
 
 pub loop-f-preserved : goal.loop-f-preserved
 loop-f-preserved c =
     let a = c.args in
     let z = ranged a.s c.requires.0 in
     let h = sym c.cell_fault-fault.ensures ∙ c.if-fault-ne0.false in
-    going_more c.loop-f.invariant z _ c.cell_line.ensures c.in-Cell.f c.in-Cell.is _ _ _ h c.place_of-place.ensures c.to_code.ensures c.store.ensures
+    going_more c.loop-f.invariant z _ c.cell_line-read.ensures c.in-Cell.f c.in-Cell.is _ _ _ h c.place_of-place.ensures c.to_code.ensures c.store.ensures

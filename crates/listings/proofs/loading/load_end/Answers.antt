@@ -8,12 +8,13 @@ use Rattle.forms.proofs.Sorts.{as_end, of_kind, kind_of, values_in}
 use Rattle.forms.proofs.Cases.{not_end}
 use Rattle.listings.specs.Loader.{rows_only, outputs_of}
 use Rattle.listings.proofs.Steps.{end_missing, end_more, end_last}
+use borrow.Enum.Refused.{opened}
 use Rattle.listings.proofs.loading.load_end.Goals as goal
 
 pub returns-in_default : goal.returns-in_default
 returns-in_default c =
     c.no_outputs.ensures
-    ∙ sym (ap outputs_of (end_missing _ _ _ _ _ c.end_line-read.ensures (not_end _ c.in_default.keys2) _ c.refusal_of.ensures))
+    ∙ sym (ap outputs_of (end_missing _ _ _ _ _ c.end_line-read.ensures (not_end _ (opened c.in_default.in_default-own.keys2)) _ c.refusal_of.ensures))
 
 pub overflow_add-line : goal.overflow_add-line
 unfolding max_rows max_columns max_outputs max_input

@@ -11,6 +11,7 @@ use Rattle.listings.proofs.Kept.{rows_again}
 use Rattle.listings.proofs.Steps.{ranged, end_outs}
 use Rattle.listings.proofs.Stands.{standing_start, standing_end, standing_missing}
 use Rattle.listings.proofs.Stands.{standing_fault, target_small, standing_more}
+use borrow.Enum.Refused.{opened}
 use Rattle.listings.proofs.loading.load_outs.Goals as goal
 
 pub loop-j-init : goal.loop-j-init
@@ -18,7 +19,7 @@ loop-j-init c = let a = c.args in standing_start a.text.now a.s a.at a.line
 
 pub returns-in_default : goal.returns-in_default
 returns-in_default c =
-    let e = standing_missing c.loop-j.invariant c.loop-j-test.true _ c.out_line-read.ensures (not_out _ c.in_default.keys2) _ c.refusal_of.ensures in
+    let e = standing_missing c.loop-j.invariant c.loop-j-test.true _ c.out_line-read.ensures (not_out _ (opened c.in_default.in_default-own.keys2)) _ c.refusal_of.ensures in
     c.no_outputs.ensures ∙ sym (ap outputs_of e)
 
 pub returns-then-fault-ne0 : goal.returns-then-fault-ne0

@@ -13,26 +13,26 @@ unfolding max_rows max_columns
 load_outs-found-requires c =
     let a = c.args in
     let z = ranged a.s c.requires.0 in
-    let d = cells-line c.load_Cells.ensures c.in-Line.is in
+    let d = cells-line c.load_cells.ensures c.in-Line.is in
     (c.requires.0, omega (arith, d.lines, d.short, z.cells_most))
 
 pub finish-requires : goal.finish-requires
 finish-requires c =
-    let d = cells-line c.load_Cells.ensures c.in-Line.is in
+    let d = cells-line c.load_cells.ensures c.in-Line.is in
     (c.requires.0, rw d.holds (kept_past _ _ d.codes d.short))
 
 pub returns-in-Refused : goal.returns-in-Refused
 returns-in-Refused c =
     let a = c.args in
-    let same : length c.load_Cells.new.1.1.1.1.0 ≡ length a.cells.now = omega arith in
-    handed_as _ _ (then_refused _ _ _ _ (cells_refused a.text.now a.s a.at a.line _ _ _ _ c.load_Cells.ensures c.in-Refused.is)) same c.refuse.ensures
+    let same : length c.load_cells.new.cells ≡ length a.cells.now = omega arith in
+    handed_as _ _ (then_refused _ _ _ _ (cells_refused a.text.now a.s a.at a.line _ _ _ _ c.load_cells.ensures c.in-Refused.is)) same c.refuse.ensures
 
 pub returns-then-found : goal.returns-then-found
 returns-then-found c =
     let a = c.args in
-    let cells = c.load_Cells.new.1.1.1.1.0 in
+    let cells = c.load_cells.new.cells in
     let same : length cells ≡ length a.cells.now = omega arith in
-    let d = cells-line c.load_Cells.ensures c.in-Line.is in
+    let d = cells-line c.load_cells.ensures c.in-Line.is in
     let t = rest_done d _ c.load_outs-found.ensures c.if-found.true in
     let held = fitted-same a.s d.codes t.0 cells _ (length cells) (rw same d.holds) d.short t.1 in
     handed_end _ _ _ _ t.2 same (handed_as _ _ held refl c.finish.ensures)
@@ -40,6 +40,6 @@ returns-then-found c =
 pub returns-else-found : goal.returns-else-found
 returns-else-found c =
     let a = c.args in
-    let same : length c.load_Cells.new.1.1.1.1.0 ≡ length a.cells.now = omega arith in
-    let d = cells-line c.load_Cells.ensures c.in-Line.is in
+    let same : length c.load_cells.new.cells ≡ length a.cells.now = omega arith in
+    let d = cells-line c.load_cells.ensures c.in-Line.is in
     handed_as _ _ (then_refused _ _ _ _ (rest_refused d _ c.load_outs-found.ensures c.if-found.false)) same c.refuse-else-found.ensures

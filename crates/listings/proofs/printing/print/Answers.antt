@@ -20,7 +20,7 @@ pub returns-then-out-past : goal.returns-then-out-past
 returns-then-out-past c =
     let a = c.args in
     let e = sym c.is_sound.ensures ∙ c.if-not-is_sound.false in
-    let k : length c.write_listing-past.new.0 ≡ length a.out.now = omega arith in
+    let k : length c.write_listing-past.new.out ≡ length a.out.now = omega arith in
     let p = long-print a.x a.cells.now _ _ (length a.out.now) _ e c.clear.ensures c.write_listing-past.ensures (omega arith) in
     handed_as _ _ p k c.refuse-then-out-past.ensures
 

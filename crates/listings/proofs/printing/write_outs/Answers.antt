@@ -27,10 +27,10 @@ pub loop-j-preserved : goal.loop-j-preserved
 unfolding max_outputs
 loop-j-preserved c =
     let a = c.args in
-    let more = out_text_more a.t3 c.loop-j.j a.k (omega arith) (omega arith) in
+    let more = out_text_more a.outs c.loop-j.j a.k (omega arith) (omega arith) in
     (going_part c.loop-j.invariant.0 more c.write_out-next.ensures, omega arith)
 
 pub returns : goal.returns
 returns c =
     let a = c.args in
-    going_end c.loop-j.invariant.0 (out_text_none a.t3 _ _ (omega arith))
+    going_end c.loop-j.invariant.0 (out_text_none a.outs _ _ (omega arith))

@@ -16,7 +16,7 @@ pub loop-c-init : goal.loop-c-init
 loop-c-init c =
     let a = c.args in
     let row = a.r * a.columns in
-    let passed = cell_text_pass a.cells.now row a.columns 0 (omega arith) a.columns _ (omega arith) c.past_Off.ensures in
+    let passed = cell_text_pass a.cells.now row a.columns 0 (omega arith) a.columns _ (omega arith) c.past_off-c.ensures in
     let begun = cell_text_from a.cells.now a.columns row (row + 0) (row + a.columns) (omega arith) in
     (going_as (going_start a.out.now a.at _) (begun ∙ passed.0), passed.2)
 

@@ -9,10 +9,13 @@ use Rattle.placement.specs.Filling.{with_nodes, all_cells}
 use Rattle.placement.proofs.FillingLaws.{length-cells, nodes_more}
 use Rattle.placement.proofs.filling.all_cells.Goals as goal
 
--- asks id_lt_max_ids, id_in_bounds
 pub on_cell-requires : goal.on_cell-requires
 unfolding max_ids max_nodes
-on_cell-requires c = (omega arith, c.requires.cells_fit.own 1 (omega arith))
+on_cell-requires c =
+    record {
+      id_lt_max_ids = omega arith;
+      id_in_bounds = c.requires.cells_fit.own 1 (omega arith);
+    }
 
 pub loop-k-init : goal.loop-k-init
 unfolding with_nodes
@@ -22,14 +25,18 @@ pub overflow_add-k : goal.overflow_add-k
 unfolding max_nodes
 overflow_add-k c = omega arith
 
--- asks id_lt_max_ids, id_in_bounds, edge_fits, edge_fits_2
 pub node_cells-requires : goal.node_cells-requires
 unfolding max_ids max_nodes
 node_cells-requires c =
     let fit = c.requires.cells_fit in
     let k = c.loop-k.k in
-    let long = c.loop-k.invariant.1 ∙ c.on_cell.auto.1.1.1.1.1.0 in
-    (omega arith, (λ b. rw long (fit.own (k + 2) (omega arith) b), (rw long (fit.edge false (k + 2) (omega arith) (omega arith)), rw long (fit.edge true (k + 2) (omega arith) (omega arith)))))
+    let long = c.loop-k.invariant.1 ∙ c.on_cell.auto.cells in
+    record {
+      id_lt_max_ids = omega arith;
+      id_in_bounds = λ b. rw long (fit.own (k + 2) (omega arith) b);
+      edge_fits = rw long (fit.edge false (k + 2) (omega arith) (omega arith));
+      edge_fits_2 = rw long (fit.edge true (k + 2) (omega arith) (omega arith));
+    }
 
 pub loop-k-preserved : goal.loop-k-preserved
 loop-k-preserved c =
@@ -40,7 +47,7 @@ loop-k-preserved c =
     )
 
 pub shape_of-cells : goal.shape_of-cells
-shape_of-cells c = c.loop-k.invariant.1 ∙ c.on_cell.auto.1.1.1.1.1.0
+shape_of-cells c = c.loop-k.invariant.1 ∙ c.on_cell.auto.cells
 
 pub returns : goal.returns
 unfolding all_cells

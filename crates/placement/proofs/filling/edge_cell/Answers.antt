@@ -28,7 +28,7 @@ returns-then-child-ne0 c =
     let child = c.child_of-child.ensures ∙ ap (child_of c.args.edge.high) c.entry_at-node.ensures in
     let switch = ap (λ (m : Node). m.x) c.entry_at-node.ensures in
     c.store.ensures
-    ∙ rw (c.edge_place-at.ensures, c.edge_code.ensures, child, switch) (store_on _ _ _ _ (rw (ne_eqb _ _ (λ e. c.if-child-ne0.true (child ∙ e)))))
+    ∙ rw (c.edge_place-at.ensures, c.edge_code-code.ensures, child, switch) (store_on _ _ _ _ (rw (ne_eqb _ _ (λ e. c.if-child-ne0.true (child ∙ e)))))
 
 pub returns-else-child-ne0 : goal.returns-else-child-ne0
 unfolding with_edge

@@ -8,11 +8,13 @@ pub returns-then-refusal-ne0 : goal.returns-then-refusal-ne0
 returns-then-refusal-ne0 c =
     map_refused _ _ _ c.read-job.ensures _ _ _ c.if-refusal-ne0.true c.refuse.ensures c.clear.ensures
 
--- asks job_held, cells_value
 pub place-requires : goal.place-requires
 place-requires c =
-    (job_held _ _ _ c.read-job.ensures c.if-refusal-ne0.false, c.clear.ensures ∙ ap zeros (sym c.clear.auto.0))
+    record {
+      job_held = job_held _ _ _ c.read-job.ensures c.if-refusal-ne0.false;
+      cells_value = c.clear.ensures ∙ ap zeros (sym c.clear.auto.out);
+    }
 
 pub returns : goal.returns
 returns c =
-    rw (map_is _ _ _ c.read-job.ensures c.if-refusal-ne0.false _) at (rw c.clear.auto.0 at c.place.ensures)
+    rw (map_is _ _ _ c.read-job.ensures c.if-refusal-ne0.false _) at (rw c.clear.auto.out at c.place.ensures)

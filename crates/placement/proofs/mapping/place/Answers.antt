@@ -7,10 +7,12 @@ pub returns-then-lacking-gt0 : goal.returns-then-lacking-gt0
 returns-then-lacking-gt0 c =
     place_short _ _ c.requires.job_held _ _ c.lacking.ensures _ _ (omega (arith, c.if-lacking-gt0.true)) c.refuse.ensures c.requires.cells_value
 
--- asks job_held, cells_value
 pub fill-requires : goal.fill-requires
 fill-requires c =
-    (c.requires.job_held, (c.requires.cells_value, place_fits _ _ c.requires.job_held _ _ c.lacking.ensures c.if-lacking-gt0.false))
+    record {
+      job_held = c.requires.job_held;
+      cells_value = (c.requires.cells_value, place_fits _ _ c.requires.job_held _ _ c.lacking.ensures c.if-lacking-gt0.false);
+    }
 
 pub returns : goal.returns
 returns c =

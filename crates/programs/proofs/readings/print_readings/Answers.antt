@@ -8,5 +8,5 @@ use Rattle.programs.proofs.readings.print_readings.Goals as goal
 pub returns : goal.returns
 returns c =
     let a = c.args in
-    let k : length c.write_readings-past.new.0 ≡ length a.out.now = omega arith in
+    let k : length c.write_readings-past.new.out ≡ length a.out.now = omega arith in
     said_over (length a.out.now) _ _ _ _ _ _ c.clear.ensures k c.write_readings-past.ensures c.said.ensures

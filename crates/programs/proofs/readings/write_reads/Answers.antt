@@ -27,10 +27,10 @@ pub loop-j-preserved : goal.loop-j-preserved
 unfolding max_outputs
 loop-j-preserved c =
     let a = c.args in
-    let more = reads_text_more a.firsts.now a.t3 c.loop-j.j a.k (omega arith) (omega arith) in
+    let more = reads_text_more a.firsts.now a.outs c.loop-j.j a.k (omega arith) (omega arith) in
     (going_part c.loop-j.invariant.0 (rw (← c.reading-v.ensures) at more) c.write_read-next.ensures, omega arith)
 
 pub returns : goal.returns
 returns c =
     let a = c.args in
-    going_end c.loop-j.invariant.0 (reads_text_none a.firsts.now a.t3 _ _ (omega arith))
+    going_end c.loop-j.invariant.0 (reads_text_none a.firsts.now a.outs _ _ (omega arith))
