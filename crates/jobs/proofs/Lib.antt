@@ -1,5 +1,4 @@
 pub mod Accepted
-pub mod Again
 pub mod Cleared
 pub mod Due
 pub mod LineLaws
@@ -7,7 +6,6 @@ pub mod Refusals
 pub mod Ending
 pub mod Entries
 pub mod Going
-pub mod Lends
 pub mod Spread
 pub mod Taken
 pub mod Walks
