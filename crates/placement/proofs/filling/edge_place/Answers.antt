@@ -1,6 +1,5 @@
 -- `placement::filling::edge_place` meets its contract: the tests of the two labels pick the row and the column.
 use mathlib.Core.Path.{◌∙◌}
-use mathlib.Core.Logic.{⊎_elim, inl, inr}
 use mathlib.Core.Bool.{true, false}
 use Rattle.common.proofs.Lists.{and_both}
 use Rattle.placement.specs.Filling.{choose}
@@ -17,4 +16,4 @@ pub returns-else-row : goal.returns-else-row
 unfolding choose
 returns-else-row c =
     c.cell_place-else-row.ensures
-    ∙ edge_by _ _ _ _ _ _ _ _ _ _ false c.entry_at-parent.ensures c.entry_at-below.ensures c.has_row-row.ensures c.has_column-column.ensures (and_fails _ _ (⊎_elim (λ w. inl (w.0.taken, w.1.left)) (λ w. inr w.left) c.else-row.branch))
+    ∙ edge_by _ _ _ _ _ _ _ _ _ _ false c.entry_at-parent.ensures c.entry_at-below.ensures c.has_row-row.ensures c.has_column-column.ensures (and_fails _ _ c.else-row.either)

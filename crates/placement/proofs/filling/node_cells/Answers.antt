@@ -5,10 +5,9 @@ use Rattle.placement.proofs.filling.node_cells.Goals as goal
 
 pub edge_cell-requires : goal.edge_cell-requires
 edge_cell-requires c =
-    let start = c in
     record {
-      id_lt_max_ids = start.requires.0;
-      edge_fits = rw c.on_cell.auto.cells start.requires.1.1.0;
+      id_lt_max_ids = c.requires.id_lt_max_ids;
+      edge_fits = rw c.on_cell.auto.cells c.requires.edge_fits;
     }
 
 pub edge_cell-requires-2 : goal.edge_cell-requires-2
