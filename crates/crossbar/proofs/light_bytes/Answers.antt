@@ -21,11 +21,12 @@ slice_bounds-numbers-end c =
 pub slice_bounds-light-end : goal.slice_bounds-light-end
 unfolding max_rows max_columns
 slice_bounds-light-end c =
-    sym (length-take-le c.smaller-room.result (zeros (max_rows + max_columns)) (array-borrow-prefix-numbers second))
+    sym (length-take-le c.smaller-room.result (zeros (max_rows + max_columns)) (lent_array c.args.x _ _ _ c.smaller-wires.ensures c.smaller-room.ensures))
 
 pub slice_bounds-write_numbers-end : goal.slice_bounds-write_numbers-end
+unfolding max_rows max_columns
 slice_bounds-write_numbers-end c =
-    let kept : length c.light-lit.new.firsts ≡ c.smaller-room.result = c.light-lit.auto.firsts ∙ sym (slice-aggregate-light c) in
+    let kept : length c.light-lit.new.firsts ≡ c.smaller-room.result = c.light-lit.auto.firsts ∙ length-take-le c.smaller-room.result (zeros (max_rows + max_columns)) (lent_array c.args.x _ _ _ c.smaller-wires.ensures c.smaller-room.ensures) in
     lent_within c.smaller-room.result c.light-lit.new.firsts _ kept
 
 pub write_numbers-requires : goal.write_numbers-requires
@@ -33,7 +34,7 @@ unfolding max_rows max_columns
 write_numbers-requires c =
     let args = c.args in
     let k = c.smaller-room.result in
-    let kept : length c.light-lit.new.firsts ≡ k = c.light-lit.auto.firsts ∙ sym (slice-aggregate-light c) in
+    let kept : length c.light-lit.new.firsts ≡ k = c.light-lit.auto.firsts ∙ length-take-le c.smaller-room.result (zeros (max_rows + max_columns)) (lent_array c.args.x _ _ _ c.smaller-wires.ensures c.smaller-room.ensures) in
     let is = lent_by args.x (length args.firsts.now) _ _ c.smaller-wires.ensures c.smaller-room.ensures in
     let most = lent_most args.x (length args.firsts.now) in
     rw (lent_front k c.light-lit.new.firsts _ kept) (omega (arith, kept, is, most))
@@ -43,7 +44,7 @@ unfolding max_rows max_columns
 returns c =
     let args = c.args in
     let k = c.smaller-room.result in
-    let front : length (take k (zeros (max_rows + max_columns))) ≡ k = sym (slice-aggregate-light c) in
+    let front : length (take k (zeros (max_rows + max_columns))) ≡ k = length-take-le c.smaller-room.result (zeros (max_rows + max_columns)) (lent_array c.args.x _ _ _ c.smaller-wires.ensures c.smaller-room.ensures) in
     let kept : length c.light-lit.new.firsts ≡ k = c.light-lit.auto.firsts ∙ front in
     light-bytes args.x args.cells.now args.setting.now args.firsts.now _ c.light-lit.new.firsts k c.light-lit.result
     (lent_by args.x (length args.firsts.now) _ _ c.smaller-wires.ensures c.smaller-room.ensures)

@@ -46,5 +46,5 @@ returns c =
     c.put_number-4.ensures
     ∙ number_more m 3 x.outputs (x.rows ∷ x.columns ∷ x.switches ∷ []) _ refl (omega arith) switches in
     let count = c.well_formed.1.0.1.1.1.1.1.1.0.1.0.1 in
-    let long : length x.outs ≡ 32 = sym (length-map x.outs _) ∙ count in
+    let long : length x.outs ≡ 32 = count in
     c.put_outs.ensures ∙ numbers_more m 4 four x.outs _ refl (omega arith) outputs

@@ -5,20 +5,8 @@ use native.Mathlib.Omega.{arith}
 use borrow.Author.Tests.{not-true, not-false, eqb-true, eqb-false}
 use Rattle.common.specs.Limits.{max_switches}
 use Rattle.figures.specs.Bytes.{bytes}
+use Rattle.programs.proofs.SetLine.{reading_other, reading-start, blank_inside, reading_missing, reading_many, reading_high, reading_next, reading_more, reading_wrong, reading_done}
 use Rattle.programs.proofs.setting.read_set.Goals as goal
-
-  Reading,
-  reading_other,
-  reading-start,
-  blank_inside,
-  reading_missing,
-  reading_many,
-  reading_high,
-  reading_next,
-  reading_more,
-  reading_wrong,
-  reading_done,
-}
 
 pub returns-then-not-word_at : goal.returns-then-not-word_at
 unfolding bytes

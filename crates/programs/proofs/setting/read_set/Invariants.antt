@@ -1,6 +1,7 @@
 -- `programs::setting::read_set` meets its contract: the invariant says which figures are seen and which are still to come.
 use Prim.Native.Nat.{◌-◌}
 use lib.ListN.{length}
+use Rattle.programs.proofs.SetLine.{Reading}
 use Rattle.programs.proofs.setting.read_set.Given as goal
 
 abbrev pub invariant-loop-value : goal.invariant-loop-value
