@@ -4,7 +4,7 @@ use Rattle.common.specs.Limits.{max_rows, max_columns, max_input}
 use native.Mathlib.Omega.{arith}
 use Rattle.figures.proofs.Ends.{end_inside}
 use Rattle.programs.specs.Programs.{light_program}
-use Rattle.programs.proofs.Answers.{line_refused, set_is, figures-taken, loaded-refused, loaded-prints}
+use Rattle.programs.proofs.Answers.{line_refused, set_is, figures-taken, figures-within, loaded-refused, loaded-prints}
 use Rattle.programs.proofs.Printing.{refused_line, input_long}
 use Rattle.programs.proofs.Texts.{said_as}
 use borrow.Author.Rules.{rules}
@@ -38,6 +38,12 @@ returns-then-refusal-ne0-2 c =
     said_as _ _ _ _ _
     (loaded-refused _ c.if-input-gt-MAX_INPUT.false l.0 l.1 _ c.line_end-next.ensures _ _ _ c.load_from-loaded.ensures refl c.if-refusal-ne0-2.true)
     c.refuse-then-refusal-ne0-2.ensures
+
+pub slice_bounds-light_and_read-end-2 : goal.slice_bounds-light_and_read-end-2
+unfolding max_input
+slice_bounds-light_and_read-end-2 c =
+    let l = set_is _ c.if-input-gt-MAX_INPUT.false _ c.set_line-set.ensures c.if-refusal-ne0.false in
+    figures-within l.0 _ l.2 l.1.few
 
 pub returns : goal.returns
 unfolding max_rows max_columns max_input
