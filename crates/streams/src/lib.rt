@@ -5,28 +5,42 @@
 ghost use Rattle.std.specs.Prelude.{◌+◌, ◌≤◌, length};
 ghost use Rattle.io.specs.Counts.{IsPrefixLen};
 
-use libc::{STDERR_FILENO, STDIN_FILENO, STDOUT_FILENO};
+use std::io::{Input, Print, Read};
+
+// A word on standard error; where it cannot be written nothing more can be told.
+fn tell<E: Print>(errors: &E, failed: &[u8]) {
+    if let Err(_) = errors.write_all(failed) {}
+}
 
 // One read into the bytes from `at` on: how many came, 0 at the end of the input and where the read fails.
-fn read_some(input: &mut [u8], at: usize, failed: &[u8]) -> usize
+fn read_some<R: Read, E: Print>(
+    reader: &mut R,
+    errors: &E,
+    input: &mut [u8],
+    at: usize,
+    failed: &[u8],
+) -> usize
     requires { at ≤ length input.old }
     ensures { at + result ≤ length input.old }
 {
-    let got = libc::read(STDIN_FILENO, &mut input[at..]);
-    if got < 0 {
-        io::write_all(STDERR_FILENO, failed);
+    match reader.read(&mut input[at..]) {
+        Ok(count) => count,
+        Err(_) => {
+            tell(errors, failed);
+            0
+        }
     }
-    io::count(got, &input[at..])
 }
 
 // Reads until the buffer is full or the input ends, and answers how many bytes came. A read that fails ends the input, and `failed` goes to
 // standard error.
-pub fn read_input(input: &mut [u8], failed: &[u8]) -> usize
+pub fn read_input<R: Input, E: Print>(rt: &R, errors: &E, input: &mut [u8], failed: &[u8]) -> usize
     ensures { IsPrefixLen result input.new }
 {
+    let mut reader = rt.reader();
     let mut n = 0;
     while n < input.len() {
-        let more = read_some(input, n, failed);
+        let more = read_some(&mut reader, errors, input, n, failed);
         if more == 0 {
             break;
         }
@@ -36,8 +50,8 @@ pub fn read_input(input: &mut [u8], failed: &[u8]) -> usize
 }
 
 // Writes the whole text, or as much of it as can be written, and then `failed` goes to standard error.
-pub fn write_answer(text: &[u8], failed: &[u8]) {
-    if !io::write_all(STDOUT_FILENO, text) {
-        io::write_all(STDERR_FILENO, failed);
+pub fn write_answer<W: Print, E: Print>(out: &W, errors: &E, text: &[u8], failed: &[u8]) {
+    if let Err(_) = out.write_all(text) {
+        tell(errors, failed);
     }
 }
