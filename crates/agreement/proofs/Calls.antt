@@ -1,4 +1,4 @@
--- Demand 3 of the calls: from their promises and `demand-3`.
+-- Demand 3 of the calls: from their promises and `demand_3`.
 use Prim.Native.Nat.{ℕ, ◌+◌, ◌*◌, ◌/◌, ◌≤◌, ◌<◌}
 use mathlib.Core.Path.{◌≡◌, sym, ap, ◌∙◌}
 use mathlib.Core.Logic.Iff

@@ -1,4 +1,4 @@
--- Demand 2 of light, of the call: from its promise and `light-answers`.
+-- Demand 2 of light, of the call: from its promise and `light_answers`.
 use Prim.Native.Nat.{ℕ, ◌+◌, ◌/◌, ◌<◌}
 use mathlib.Core.Path.{◌≡◌, ap, ◌∙◌}
 use mathlib.Core.Bool.{true}

@@ -1,7 +1,7 @@
 -- What the calls that a C program links accept: for each of them, exactly when it refuses nothing, by what it is handed, and of light also
 -- exactly when it gives 14. So nothing but a ground that the documents list is refused. MapCall and the others are the contracts of the
 -- calls (crates/crossbar/specs/Host.antt), and number_part is CROSSBAR_NUMBER of include/crossbar.h, which is 0 where nothing is refused.
--- The proof is `calls-accept` in proofs/Acceptance.antt: CallsAccept.
+-- The proof is `calls_accept` in proofs/Acceptance.antt: CallsAccept.
 use Rattle.std.specs.Prelude.{ℕ, ◌+◌, ◌*◌, ◌≤◌, ◌<◌, ◌≡◌, ◌↔◌, true, List, length}
 use Rattle.common.specs.Limits.{max_outputs}
 use Rattle.cells.specs.declared.Crossbar.{Crossbar}

@@ -2,7 +2,7 @@
 -- `crossbar_light` and `crossbar_walk` answer and leave in the buffers lent to them: MapCall, LightCall and WalkCall are their contracts
 -- (crates/crossbar/specs/Host.antt), and number_part and low_part are CROSSBAR_NUMBER and CROSSBAR_VALUE of include/crossbar.h.
 -- Light may be given the buffers that map filled, or other slices that hold the same crossbar (Holds).
--- The statement is Demand3OfCalls, and its proof `calls-agree` in proofs/Calls.antt.
+-- The statement is Demand3OfCalls, and its proof `calls_agree` in proofs/Calls.antt.
 use Rattle.std.specs.Prelude.{ℕ, ◌+◌, ◌*◌, ◌≤◌, ◌<◌, ◌≡◌, ◌↔◌, true, List, length, get_or, take}
 use Rattle.common.specs.Lists.{padded}
 use Rattle.common.specs.Outcome.{done}

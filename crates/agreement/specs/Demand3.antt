@@ -3,7 +3,7 @@
 --   an output reads 1 exactly when its walk ends at one;
 --   two outputs read the same under every setting exactly when they stand on one row;
 --   light and walk, unless they refuse, answer that reading.
--- The proof is `demand-3` in proofs/Demand3.antt: (text : List ℕ) (d : Diagram) → accepted text ≡ done d → Demand3 text d.
+-- The proof is `demand_3` in proofs/Demand3.antt: (text : List ℕ) (d : Diagram) → accepted text ≡ done d → Demand3 text d.
 use Rattle.std.specs.Prelude.{ℕ, ◌+◌, ◌≤◌, ◌<◌, ◌≡◌, ◌↔◌, true, List, length, get_or}
 use Rattle.common.specs.Lists.{padded}
 use Rattle.common.specs.Outcome.{done}

@@ -3,7 +3,7 @@
 -- lit; the value is the least count of rounds at which nothing is added (`Lights` in crates/conduction/specs/Lit.antt). LightCall is the
 -- contract of `crossbar_light` (crates/crossbar/specs/Host.antt), and number_part and low_part are CROSSBAR_NUMBER and CROSSBAR_VALUE of
 -- include/crossbar.h.
--- The statement is LampOfCalls, and its proof `lamp-of-calls` in proofs/Lamp.antt.
+-- The statement is LampOfCalls, and its proof `lamp_of_calls` in proofs/Lamp.antt.
 use Rattle.std.specs.Prelude.{ℕ, ◌+◌, ◌/◌, ◌≤◌, ◌<◌, ◌≡◌, List, length, get_or}
 use Rattle.common.specs.Limits.{max_rows, max_columns}
 use Rattle.common.specs.Lists.{padded}

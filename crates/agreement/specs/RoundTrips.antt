@@ -2,7 +2,7 @@
 -- and load then print gives that text, where neither refuses. PrintCall, LoadCall, LightCall and MapCall are the contracts of the calls
 -- (crates/crossbar/specs/Host.antt), and number_part and low_part are CROSSBAR_NUMBER and CROSSBAR_VALUE of include/crossbar.h. A text that
 -- print left in a buffer is handed to load as its first bytes, as many as print's value says.
--- The proof is `round-trips` in proofs/RoundTrips.antt: RoundTrips.
+-- The proof is `round_trips` in proofs/RoundTrips.antt: RoundTrips.
 use Rattle.std.specs.Prelude.{ℕ, ◌/◌, ◌≤◌, ◌≡◌, true, List, length, take, ltb}
 use Rattle.common.specs.Lists.{padded, all_of}
 use Rattle.common.specs.Outcome.{done, Answered}

@@ -1,6 +1,6 @@
 -- Demand 2 of light: what its answer says, where it does not refuse. Document 01, "Conduction" and "What an output reads": a wire is lit
 -- exactly when a chain of conducting cells joins it to row 0, and the count of rounds is the least at which nothing is added. Document 02,
--- Req 01: the number of each wire. The proof is `light-answers` in proofs/Light.antt: light x cells setting room ≡ done a → Lights x cells
+-- Req 01: the number of each wire. The proof is `light_answers` in proofs/Light.antt: light x cells setting room ≡ done a → Lights x cells
 -- setting room a.
 use Rattle.std.specs.Prelude.{ℕ, ◌+◌, ◌-◌, ◌≤◌, ◌<◌, ◌≡◌, ◌↔◌, Bool, true, false, List, length, get_or}
 use Rattle.cells.specs.declared.Crossbar.{Crossbar}

@@ -1,6 +1,6 @@
 -- The two parts of a call's answer, as CROSSBAR_NUMBER, CROSSBAR_VALUE and CROSSBAR_LINE of include/crossbar.h take them out of its 64
 -- bits. No value and no line reaches the highest byte, so that none is taken for the number of a refusal. By its contract the answer of
--- each call is `packed` of the outcome that is named here. The proof is `calls-read` in proofs/Parts.antt: CallsRead.
+-- each call is `packed` of the outcome that is named here. The proof is `calls_read` in proofs/Parts.antt: CallsRead.
 use Rattle.std.specs.Prelude.{ℕ, ◌+◌, ◌-◌, ◌*◌, ◌/◌, ◌%◌, ◌≤◌, ◌≡◌, ◌↔◌, List, length}
 use Rattle.common.specs.Limits.{max_rows, max_columns, max_text}
 use Rattle.common.specs.Outcome.{Outcome, done, refused, number_of}

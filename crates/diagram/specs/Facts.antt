@@ -1,4 +1,4 @@
--- What holds of a diagram whose lines break none of grounds 1 to 9 and 11, as plain facts: `accepted-job` in jobs/proofs/Accepted.antt
+-- What holds of a diagram whose lines break none of grounds 1 to 9 and 11, as plain facts: `accepted_job` in jobs/proofs/Accepted.antt
 -- shows them of every accepted job. Theorems use them, and so does the contract of the placement.
 use Rattle.std.specs.Prelude.{ℕ, ◌≤◌, ◌<◌, ◌≡◌, ◌⊎◌, false, length, get_or}
 use Rattle.common.specs.Labels.{label_h, label_v, label_b}

@@ -7,7 +7,7 @@ use native.Mathlib.Omega.{arith}
 use lib.ListN.{length, take, drop, set, length-set, length-replicate}
 use lib.Seq.{get_or-set_other, length-take-le}
 use Rattle.common.specs.Limits.{max_outputs}
-use Rattle.common.specs.Lists.{zeros, padded, tab}
+use Rattle.common.specs.Lists.{zeros, tab}
 use Rattle.common.specs.Outcome.{Outcome, done, refused, ◌then◌, lowest, unless, number_of, line_of, refusal_of, value_of}
 use Rattle.common.specs.declared.Refusal.{Refusal}
 use Rattle.common.proofs.Lists.{length-tab, get_or-zeros_at}

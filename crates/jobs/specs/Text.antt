@@ -1,6 +1,6 @@
 -- Document 01, "Job text": the text of a job, written from its diagram; and the claim that a job has exactly one text, so that what is
 -- accepted is known from the diagram alone, and nothing but a listed fault is refused.
--- The proof is `one-text` in proofs/Text.antt: OneText.
+-- The proof is `one_text` in proofs/Text.antt: OneText.
 use Rattle.std.specs.Prelude.{ℕ, suc, ◌+◌, ◌≤◌, ◌≡◌, ◌↔◌, List, [], ◌∷◌, ◌++◌, length}
 use Rattle.common.specs.Limits.{max_switches, max_nodes, max_outputs}
 use Rattle.common.specs.Outcome.{done}

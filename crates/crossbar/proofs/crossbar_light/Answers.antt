@@ -1,6 +1,5 @@
 -- `crossbar::crossbar_light` meets its contract: a slice that holds no record is refused, and otherwise light answers.
 use mathlib.Core.Path.{sym, ◌∙◌}
-use Rattle.cells.proofs.Every.{held, broken}
 use Rattle.common.specs.Outcome.{most_number}
 use Rattle.crossbar.proofs.Calls.{light_refused, light-numbers, light_answered}
 use Rattle.crossbar.proofs.Records.{holds_enough}

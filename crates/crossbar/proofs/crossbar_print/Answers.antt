@@ -1,7 +1,6 @@
 -- `crossbar::crossbar_print` meets its contract: a slice that holds no record is refused, and otherwise print answers.
 use mathlib.Core.Path.{sym, ◌∙◌}
 use lib.ListN.{length}
-use Rattle.cells.proofs.Every.{held, broken}
 use Rattle.common.specs.Outcome.{most_number}
 use Rattle.crossbar.proofs.Calls.{print_refused, print-numbers, print_answered}
 use Rattle.crossbar.proofs.Records.{holds_enough}

@@ -1,5 +1,4 @@
 -- `figures::line_end` meets its contract: from the position of each turn the line ends where it ends from the first.
-use Prim.Native.Nat.{◌-◌}
 use mathlib.Core.Path.{sym, ◌∙◌}
 use borrow.Author.Rules.{rules}
 use Rattle.figures.proofs.Ends.{end_here, end_later, end_none}

@@ -1,5 +1,4 @@
 -- `figures::read_figure` meets its contract: the invariant says which digits are read and what number they write.
-use Prim.Native.Nat.{◌-◌}
 use mathlib.Core.Path.{sym, ◌∙◌}
 use native.Mathlib.Omega.{arith}
 use borrow.Author.Rules.{rules}

@@ -1,5 +1,4 @@
 -- `figures::word_at` meets its contract: what is left of the word at what is left of the text is the same question in each turn.
-use Prim.Native.Nat.{◌-◌}
 use mathlib.Core.Path.{sym, ap, ◌∙◌}
 use borrow.Author.Rules.{rules}
 use Rattle.figures.specs.Position.{given, stands}

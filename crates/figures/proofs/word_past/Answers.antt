@@ -1,5 +1,5 @@
 -- `figures::word_past` meets its contract: what is left of the word at what is left of the text is the same question in each turn.
-use Prim.Native.Nat.{◌+◌, ◌-◌}
+use Prim.Native.Nat.{◌+◌}
 use mathlib.Core.Path.{◌≡◌, sym, ap, ◌∙◌}
 use native.Mathlib.Omega.{arith}
 use borrow.Author.Rules.{rules}

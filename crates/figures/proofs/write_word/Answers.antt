@@ -1,5 +1,4 @@
 -- `figures::write_word` meets its contract: after j bytes the buffer holds the first j bytes of the word at the position.
-use Prim.Native.Nat.{◌-◌}
 use mathlib.Core.Path.{refl, sym, ap, ◌∙◌}
 use native.Mathlib.Omega.{arith}
 use lib.ListN.{length-set}

@@ -1,6 +1,5 @@
 -- `cells::checks::at_most` meets its contract: all of the first n bytes pass where the highest before i does and those from i on do.
-use Prim.Native.Nat.{◌-◌}
-use mathlib.Core.Logic.{inl, inr, ⊎_elim}
+use mathlib.Core.Logic.{inl, inr}
 use native.Mathlib.Omega.{arith}
 use lib.Dec.{leb}
 use borrow.Author.Tests.{le-leb}

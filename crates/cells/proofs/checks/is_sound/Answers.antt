@@ -4,7 +4,6 @@ use mathlib.Core.Bool.{true, false}
 use native.Mathlib.Omega.{arith}
 use borrow.Author.Tests.{le-leb, lt-leb}
 use Rattle.common.specs.Limits.{max_rows, max_columns, max_switches}
-use Rattle.cells.proofs.Every.{held, broken}
 use Rattle.cells.proofs.Sizes.{in_range_lem, sound_by}
 use Rattle.cells.proofs.checks.is_sound.Goals as goal
 

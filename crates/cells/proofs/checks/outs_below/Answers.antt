@@ -1,6 +1,5 @@
 -- `cells::checks::outs_below` meets its contract: all of the first n output rows pass where those before i did and those from i on do.
-use Prim.Native.Nat.{◌-◌}
-use mathlib.Core.Logic.{inl, inr, ⊎_elim}
+use mathlib.Core.Logic.{inl, inr}
 use native.Mathlib.Omega.{arith}
 use lib.ListN.{get_or}
 use lib.Dec.{ltb}
@@ -39,5 +38,6 @@ loop-i-preserved c =
     let out = get_or args.outs c.loop-i.i 0 in
     first_next (λ o. ltb o args.rows) _ c.loop-i.ok c.if-outs-i.ok args.outs args.n c.loop-i.i (omega arith) (omega arith) c.loop-i.invariant
     (elim c.if-outs-i.branch [
-      then-outs-i w ↦ inl (le-ltb out args.rows (omega (arith, w.if-outs-i.true)), w.ok-is)
-      | else-outs-i w ↦ inr (lt-ltb out args.rows (omega (arith, w.if-outs-i.false)), w.ok-is) ])
+      | then-outs-i w ↦ inl (le-ltb out args.rows (omega (arith, w.if-outs-i.true)), w.ok-is)
+      | else-outs-i w ↦ inr (lt-ltb out args.rows (omega (arith, w.if-outs-i.false)), w.ok-is)
+    ])

@@ -1,7 +1,6 @@
 -- `cells::checks::outs_zero_from` meets its contract: all output rows from the start on are 0 where those before i were and those from i on
 -- are.
-use Prim.Native.Nat.{◌-◌}
-use mathlib.Core.Logic.{inl, inr, ⊎_elim}
+use mathlib.Core.Logic.{inl, inr}
 use native.Mathlib.Omega.{arith}
 use lib.Dec.{eqb}
 use borrow.Author.Tests.{eq-eqb, ne_eqb}

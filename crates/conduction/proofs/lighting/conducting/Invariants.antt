@@ -1,5 +1,5 @@
 -- `conduction::lighting::conducting` meets its contract: the codes before the next one are in the table.
-use Prim.Native.Nat.{◌+◌, ◌-◌, ◌≤◌}
+use Prim.Native.Nat.{◌-◌, ◌≤◌}
 use mathlib.Core.Path.{◌≡◌}
 use mathlib.Core.List.{◌++◌}
 use lib.ListN.{drop}

@@ -3,7 +3,6 @@ use mathlib.Core.Path.{refl, ap, ◌∙◌, sym}
 use native.Mathlib.Omega.{arith}
 use lib.ListN.{length}
 use Rattle.common.specs.Lists.{zeros}
-use Rattle.cells.proofs.Every.{held, broken}
 use Rattle.cells.specs.Record.{size}
 use Rattle.cells.proofs.Sizes.{sound_facts, setting_length}
 use Rattle.conduction.proofs.Promise.{by_12, by_13, by_14, answers_refused, answers_15, answers_done}

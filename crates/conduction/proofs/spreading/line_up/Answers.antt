@@ -1,5 +1,5 @@
 -- `conduction::spreading::line_up` meets its contract: the first i wires stand in order, and the next is at hand.
-use Prim.Native.Nat.{◌+◌, ◌-◌}
+use Prim.Native.Nat.{◌+◌}
 use mathlib.Core.Path.{◌≡◌, refl, ◌∙◌}
 use mathlib.Core.List.{append-nil}
 use native.Mathlib.Omega.{arith}

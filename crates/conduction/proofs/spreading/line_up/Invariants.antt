@@ -1,5 +1,5 @@
 -- `conduction::spreading::line_up` meets its contract: the first i wires stand in order, and the next is at hand.
-use Prim.Native.Nat.{◌+◌, ◌-◌, ◌≤◌}
+use Prim.Native.Nat.{◌-◌, ◌≤◌}
 use mathlib.Core.Path.{◌≡◌}
 use mathlib.Core.List.{◌++◌}
 use lib.ListN.{length, drop}

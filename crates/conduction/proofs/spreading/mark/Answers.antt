@@ -1,5 +1,5 @@
 -- `conduction::spreading::mark` meets its contract: the wires from the first up to i have the new stamp.
-use Prim.Native.Nat.{◌-◌, ◌<◌}
+use Prim.Native.Nat.{◌<◌}
 use mathlib.Core.Path.{◌≡◌, refl}
 use native.Mathlib.Omega.{arith}
 use lib.ListN.{length, length-set}

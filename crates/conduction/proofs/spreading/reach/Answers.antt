@@ -1,10 +1,8 @@
 -- `conduction::spreading::reach` meets its contract: the wires from the first dark one up to the next four are sorted.
-use Prim.Native.Nat.{◌+◌, ◌-◌, ◌<◌}
+use Prim.Native.Nat.{◌+◌, ◌<◌}
 use mathlib.Core.Path.{refl, sym, ap, ◌∙◌}
-use mathlib.Core.Logic.{⊎_elim}
 use native.Mathlib.Omega.{arith}
 use lib.ListN.{length}
-use borrow.Author.Tests.{not-false}
 use Rattle.conduction.specs.Wires.{adds_of}
 use Rattle.conduction.proofs.Sorting.{exchanged_all, sorted_none, sorted_pass, sorted_on}
 use Rattle.conduction.proofs.Parts.{four_not}
@@ -36,24 +34,24 @@ pub loop-at-preserved : goal.loop-at-preserved
 loop-at-preserved c =
     let inv = c.loop-at.invariant in
     elim c.if-not-four_off.branch [
-      then-not-four_off w ↦
-    let sorting = w.sort-lit in (
-      ap length w.wires-is ∙ sorting.auto.wires ∙ inv.0,
-      omega arith,
-      rw w.wires-is
-          (λ k h.
-          exchanged_all (λ w. c.args.adds + adds_of w < length c.args.cells.now) _ _ _ sorting.ensures.exchanged inv.2 k
-          (omega (arith, sorting.auto.wires))),
-      rw (w.wires-is, w.lit-is) (sorted_on _ _ _ _ _ _ inv.3 _ _ _ inv.0 (omega arith) sorting.ensures),
-    )
+      | then-not-four_off w ↦
+          let sorting = w.sort-lit in (
+            ap length w.wires-is ∙ sorting.auto.wires ∙ inv.0,
+            omega arith,
+            rw w.wires-is
+                (λ k h.
+                exchanged_all (λ w. c.args.adds + adds_of w < length c.args.cells.now) _ _ _ sorting.ensures.exchanged inv.2 k
+                (omega (arith, sorting.auto.wires))),
+            rw (w.wires-is, w.lit-is) (sorted_on _ _ _ _ _ _ inv.3 _ _ _ inv.0 (omega arith) sorting.ensures),
+          )
       | else-not-four_off w ↦ (
-      ap length w.wires-is ∙ inv.0,
-      omega arith,
-      rw w.wires-is inv.2,
-      rw (w.wires-is, w.lit-is)
-          (sorted_pass _ _ _ _ _ _ inv.3 _ (omega arith)
-          (four_not _ _ _ _ _ c.requires.1 (sym c.four_off.ensures ∙ w.if-not-four_off.false))),
-    )
+        ap length w.wires-is ∙ inv.0,
+        omega arith,
+        rw w.wires-is inv.2,
+        rw (w.wires-is, w.lit-is)
+            (sorted_pass _ _ _ _ _ _ inv.3 _ (omega arith)
+            (four_not _ _ _ _ _ c.requires.1 (sym c.four_off.ensures ∙ w.if-not-four_off.false))),
+      )
     ]
 
 pub sort-requires : goal.sort-requires

@@ -1,7 +1,6 @@
 -- `conduction::spreading::sort` meets its contract: the wires from the first place up to i are sorted.
-use Prim.Native.Nat.{ℕ, ◌+◌, ◌-◌}
+use Prim.Native.Nat.{ℕ, ◌+◌}
 use mathlib.Core.Path.{◌≡◌, refl, sym, ap, ◌∙◌}
-use mathlib.Core.Logic.{⊎_elim}
 use native.Mathlib.Omega.{arith}
 use lib.ListN.{length, length-set}
 use Rattle.conduction.specs.Wires.{adds_of, passes}
@@ -36,19 +35,19 @@ loop-i-preserved c =
     let wires = c.loop-i.wires in
     let named = c.passes.ensures ∙ ap (λ (x : ℕ). passes c.args.on.now c.args.cells.now (c.args.adds + x)) c.adds_of.ensures in
     elim c.if-passes.branch [
-      then-passes w ↦ (
-      ap length w.wires-is ∙ simp length-set c.loop-i.invariant.0,
-      omega arith,
-      rw (w.wires-is, w.lit-is)
-          (sorted_name _ _ _ _ _ _ c.loop-i.invariant.2 c.loop-i.invariant.0 (omega (arith, c.requires.within)) (sym named ∙ w.if-passes.true)),
-    )
+      | then-passes w ↦ (
+        ap length w.wires-is ∙ simp length-set c.loop-i.invariant.0,
+        omega arith,
+        rw (w.wires-is, w.lit-is)
+            (sorted_name _ _ _ _ _ _ c.loop-i.invariant.2 c.loop-i.invariant.0 (omega (arith, c.requires.within)) (sym named ∙ w.if-passes.true)),
+      )
       | else-passes w ↦ (
-      ap length w.wires-is ∙ c.loop-i.invariant.0,
-      omega arith,
-      rw (w.wires-is, w.lit-is)
-          (sorted_pass _ _ _ _ _ _ c.loop-i.invariant.2 _ (omega arith)
-          (λ k p q. let at : k ≡ i = omega arith in rw at (sym named ∙ w.if-passes.false))),
-    )
+        ap length w.wires-is ∙ c.loop-i.invariant.0,
+        omega arith,
+        rw (w.wires-is, w.lit-is)
+            (sorted_pass _ _ _ _ _ _ c.loop-i.invariant.2 _ (omega arith)
+            (λ k p q. let at : k ≡ i = omega arith in rw at (sym named ∙ w.if-passes.false))),
+      )
     ]
 
 pub shape_of-wires : goal.shape_of-wires

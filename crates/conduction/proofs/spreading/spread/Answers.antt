@@ -1,5 +1,5 @@
 -- `conduction::spreading::spread` meets its contract: the dark wires are sorted by what the wires from head up to i are joined to.
-use Prim.Native.Nat.{◌+◌, ◌-◌, ◌<◌}
+use Prim.Native.Nat.{◌+◌, ◌<◌}
 use mathlib.Core.Path.{◌≡◌, refl, ◌∙◌}
 use native.Mathlib.Omega.{arith}
 use lib.ListN.{length}

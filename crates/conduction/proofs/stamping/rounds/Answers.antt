@@ -1,5 +1,4 @@
 -- `conduction::stamping::rounds` meets its contract: whenever the loop begins again, t rounds were run and each added a wire.
-use Prim.Native.Nat.{◌-◌}
 use mathlib.Core.Path.{refl, ◌∙◌}
 use native.Mathlib.Omega.{arith}
 use native.Mathlib.Nat.{le_trans, mul-le-mul_left, mul-le-mul_right}

@@ -1,5 +1,5 @@
 -- `crossbar::bytes::read_record` meets its contract: before each output row those before it are in the table.
-use Prim.Native.Nat.{ℕ, ◌+◌, ◌-◌}
+use Prim.Native.Nat.{ℕ, ◌+◌}
 use mathlib.Core.Path.{◌≡◌, refl, ◌∙◌}
 use native.Mathlib.Omega.{arith}
 use mathlib.Core.List.{List}

@@ -1,9 +1,9 @@
 -- `crossbar::bytes::write_record` meets its contract: the numbers of the record go into a clear buffer in turn.
 use Prim.Native.Nat.{◌≤◌}
-use mathlib.Core.Path.{◌≡◌, refl, sym, ◌∙◌}
+use mathlib.Core.Path.{◌≡◌, refl, ◌∙◌}
 use mathlib.Core.List.{[], ◌∷◌}
 use native.Mathlib.Omega.{arith}
-use lib.ListN.{length, length-map}
+use lib.ListN.{length}
 use Rattle.common.specs.Limits.{max_outputs}
 use Rattle.crossbar.specs.Bytes.{record_length, numbers_of, record_bytes}
 use Rattle.crossbar.proofs.Pairs.{number_more, numbers_more, no_numbers}

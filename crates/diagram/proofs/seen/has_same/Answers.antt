@@ -1,8 +1,7 @@
 -- `diagram::seen::has_same` meets its contract: no node before the index k has the same switch and children.
 use borrow.Author.Rules.{rules}
-use Prim.Native.Nat.{ℕ, ◌+◌, ◌-◌}
+use Prim.Native.Nat.{ℕ, ◌+◌}
 use mathlib.Core.Path.{◌≡◌, refl, sym, ap, ◌∙◌}
-use mathlib.Core.Bool.{false}
 use native.Mathlib.Omega.{arith}
 use Rattle.common.specs.Limits.{max_nodes, max_ids}
 use Rattle.common.specs.Lists.{any_of, tab}

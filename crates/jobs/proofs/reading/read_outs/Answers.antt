@@ -1,5 +1,4 @@
 -- `jobs::reading::read_outs` meets its contract: the invariant says how the reading goes on from output j.
-use Prim.Native.Nat.{◌-◌}
 use native.Mathlib.Omega.{arith}
 use Rattle.common.specs.Limits.{max_nodes, max_outputs}
 use Rattle.jobs.proofs.Ending.{outs_start, outs_stops, outs_more, outs_done}

@@ -18,9 +18,11 @@ loop-k-smaller c = omega (arith, c.loop-k-test.true)
 
 pub loop-k-preserved : goal.loop-k-preserved
 unfolding max_nodes no_node
-loop-k-preserved c =
-    (rw (add-one, c.put.ensures)
-    (cleared_more _ _ c.loop-k.k c.loop-k.nodes (omega (arith, c.loop-k.auto.nodes, c.requires.0)) c.loop-k.invariant.0), omega arith)
+loop-k-preserved c = (
+  rw (add-one, c.put.ensures)
+      (cleared_more _ _ c.loop-k.k c.loop-k.nodes (omega (arith, c.loop-k.auto.nodes, c.requires.0)) c.loop-k.invariant.0),
+  omega arith,
+)
 
 pub returns : goal.returns
 unfolding max_nodes

@@ -2,7 +2,7 @@
 use Rattle.std.proofs.Common.{sym, ◌∙◌, refl, add-one}
 use Rattle.common.specs.Limits.{max_ids, max_nodes}
 use Rattle.diagram.specs.Seen.{max_seen}
-use Rattle.jobs.proofs.Going.{turn_start, turn_more, turn_below, answered, answered_few}
+use Rattle.jobs.proofs.Going.{turn_start, turn_more, answered, answered_few}
 use Rattle.jobs.proofs.table.read_job.Goals as goal
 
 pub first_node-p-requires : goal.first_node-p-requires
@@ -19,9 +19,10 @@ loop-seen-preserved c =
     (rw (← c.node.ensures) c.put.ensures) _ _ _ c.next_node-p.ensures)
 
 pub clear-requires : goal.clear-requires
-clear-requires c =
-    (c.loop-seen.auto.nodes ∙ c.requires,
-    answered_few _ _ _ _ _ _ c.loop-seen.invariant (sym c.found.ensures ∙ c.loop-seen-test.false) _ c.finish-read.ensures _ c.node_count.ensures)
+clear-requires c = (
+  c.loop-seen.auto.nodes ∙ c.requires,
+  answered_few _ _ _ _ _ _ c.loop-seen.invariant (sym c.found.ensures ∙ c.loop-seen-test.false) _ c.finish-read.ensures _ c.node_count.ensures,
+)
 
 pub returns : goal.returns
 returns c =

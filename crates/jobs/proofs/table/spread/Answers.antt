@@ -1,8 +1,7 @@
 -- `jobs::table::spread` meets its contract: each turn puts the next entry.
-use Rattle.std.proofs.Common.{refl, sym, ap, ◌∙◌, arith, add-one, ◌≡◌}
+use Rattle.std.proofs.Common.{arith, add-one, ◌≡◌}
 use Rattle.common.specs.Limits.{max_ids, max_nodes}
-use Rattle.diagram.specs.Table.{with_entry}
-use Rattle.jobs.specs.Spread.{spread, begun}
+use Rattle.jobs.specs.Spread.{spread}
 use Rattle.jobs.proofs.table.spread.Goals as goal
 
 pub loop-k-init : goal.loop-k-init

@@ -2,7 +2,6 @@
 use mathlib.Core.Path.{refl, ◌∙◌, sym}
 use native.Mathlib.Omega.{arith}
 use Rattle.common.specs.Limits.{max_outputs}
-use Rattle.cells.proofs.Every.{held, broken}
 use Rattle.jobs.proofs.Walks.{walk_refused, nodes_few, outs_few, walk_terminals, walk_falls, walk_unset, walk_past, walk_found}
 use Rattle.jobs.proofs.walking.walk.Goals as goal
 

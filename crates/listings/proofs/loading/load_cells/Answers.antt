@@ -1,6 +1,5 @@
 -- `listings::loading::load_cells` meets its contract: between two lines the definition has still to read the lines from the position
 -- reached on, and the buffer holds the cells before it. The measure is what is left of the text.
-use Prim.Native.Nat.{◌-◌}
 use mathlib.Core.Path.{sym, ◌∙◌}
 use native.Mathlib.Omega.{arith}
 use Rattle.common.specs.Limits.{max_rows, max_columns, max_input}

@@ -1,6 +1,5 @@
 -- `listings::loading::load_outs` meets its contract: between two lines the definition has still to read the lines from the position
 -- reached on, and the array holds the output rows before them. The measure is what is left of the outputs.
-use Prim.Native.Nat.{◌-◌}
 use mathlib.Core.Path.{sym, ap, ◌∙◌}
 use mathlib.Core.List.{[]}
 use native.Mathlib.Omega.{arith}

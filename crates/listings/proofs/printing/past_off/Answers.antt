@@ -1,8 +1,6 @@
 -- `listings::printing::past_off` meets its contract: the eights passed over so far and those from column d on are those from column c on.
-use Prim.Native.Nat.{◌-◌}
 use mathlib.Core.Path.{refl, sym, ◌∙◌}
 use native.Mathlib.Omega.{arith}
-use borrow.Author.Tests.{not-true, not-false}
 use Rattle.listings.proofs.Text.{eight_passed, eight_not, eight_past}
 use Rattle.listings.proofs.printing.past_off.Goals as goal
 

@@ -1,7 +1,6 @@
 -- `listings::printing::print` meets its contract: the answer and the buffer, by the case of the definition.
 use mathlib.Core.Path.{◌≡◌, refl, sym, ◌∙◌}
 use native.Mathlib.Omega.{arith}
-use borrow.Author.Tests.{not-true, not-false}
 use lib.ListN.{length}
 use Rattle.listings.proofs.Answers.{print-unsound, answered-done, long-print}
 use Rattle.listings.proofs.Handing.{handed_as}

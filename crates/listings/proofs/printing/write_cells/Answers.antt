@@ -1,5 +1,5 @@
 -- `listings::printing::write_cells` meets its contract: the lines of the cells from row r on are still to be written.
-use Prim.Native.Nat.{ℕ, ◌*◌, ◌-◌}
+use Prim.Native.Nat.{ℕ, ◌*◌}
 use mathlib.Core.Path.{◌≡◌, ap}
 use native.Mathlib.Omega.{arith}
 use Rattle.common.specs.Limits.{max_rows}

@@ -1,6 +1,6 @@
 -- `listings::printing::write_row` meets its contract: the lines of the row's cells from column c on are still to be written. Cells
 -- that are off have no line.
-use Prim.Native.Nat.{◌+◌, ◌*◌, ◌-◌}
+use Prim.Native.Nat.{◌+◌, ◌*◌}
 use mathlib.Core.Path.{◌∙◌}
 use native.Mathlib.Omega.{arith}
 use Rattle.common.specs.Limits.{max_rows, max_columns}

@@ -1,5 +1,5 @@
 -- `placement::filling::all_cells` meets its contract: before each node the cells of the nodes below it are stored.
-use Prim.Native.Nat.{◌+◌, ◌-◌}
+use Prim.Native.Nat.{◌+◌}
 use mathlib.Core.Path.{◌≡◌, refl, ap, ◌∙◌}
 use mathlib.Core.Bool.{true, false}
 use native.Mathlib.Omega.{arith}

@@ -1,5 +1,5 @@
 -- `placement::record::head_of` meets its contract: before each output the rows of those before it are in the table.
-use Prim.Native.Nat.{◌-◌, ◌<◌}
+use Prim.Native.Nat.{◌<◌}
 use mathlib.Core.Path.{◌≡◌, refl}
 use native.Mathlib.Omega.{arith}
 use lib.ListN.{length, length-set}

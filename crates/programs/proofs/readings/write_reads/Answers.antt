@@ -1,5 +1,4 @@
 -- `programs::readings::write_reads` meets its contract: the lines of the outputs from output j on are still to be written.
-use Prim.Native.Nat.{◌-◌}
 use native.Mathlib.Omega.{arith}
 use Rattle.common.specs.Limits.{max_outputs}
 use Rattle.forms.proofs.Parts.{going_start, going_part, going_end}

@@ -1,8 +1,7 @@
 -- `programs::setting::read_set` meets its contract: the invariant says which figures are seen and which are still to come.
-use Prim.Native.Nat.{◌-◌}
 use mathlib.Core.Path.{sym, ◌∙◌}
 use native.Mathlib.Omega.{arith}
-use borrow.Author.Tests.{not-true, not-false, eqb-true, eqb-false}
+use borrow.Author.Tests.{eqb-true, eqb-false}
 use Rattle.common.specs.Limits.{max_switches}
 use Rattle.figures.specs.Bytes.{bytes}
 use Rattle.programs.proofs.SetLine.{reading_other, reading-start, blank_inside, reading_missing, reading_many, reading_high, reading_next, reading_more, reading_wrong, reading_done}
