@@ -52,14 +52,13 @@ bench:
 	tests/bench/run
 
 soak:
-	$(RT) staticlib crossbar
+	RT='$(RT)' tools/build archive
 	CARGO_TARGET_DIR=target/cargo cargo run --quiet --release --offline --locked \
 	    --manifest-path tests/Cargo.toml -p differential --bin differential -- --soak $(SECONDS)
 
 # The programs and the archive.
 proved:
-	$(if $(CROSSBAR_LIB),,$(RT) check map_main light_main)
-	$(if $(CROSSBAR_LIB),,$(RT) staticlib crossbar)
+	$(if $(CROSSBAR_LIB),,RT='$(RT)' tools/build)
 
 build: proved tool shared
 

@@ -14,7 +14,7 @@ fn main() {
     println!("cargo:rerun-if-changed={}", path.display());
     let Ok(path) = path.canonicalize() else {
         panic!(
-            "there is no library at {}; `rt staticlib crossbar` makes it",
+            "there is no library at {}; tools/build makes it",
             path.display()
         );
     };

@@ -1,4 +1,4 @@
-// The calls for a C program, on numbers and byte slices.
+// The calls for a C program, on numbers and byte slices. The crate crossbar_c gives them their C names.
 #![tactic(auto)]
 
 pub mod answers; // answers.rt: one number for an outcome
@@ -15,8 +15,7 @@ use common::{MAX_COLUMNS, MAX_ROWS};
 use conduction::Lighted;
 
 // Map: job text in; record and cells out.
-#[unsafe(no_mangle)]
-pub extern "C" fn crossbar_map(text: &[u8], head: &mut [u8], cells: &mut [u8]) -> u64
+pub fn crossbar_map(text: &[u8], head: &mut [u8], cells: &mut [u8]) -> u64
     ensures { MapCall text.now head.old cells.old result head.new cells.new }
 {
     let mapped = placement::mapping::map(text, cells);
@@ -26,8 +25,7 @@ pub extern "C" fn crossbar_map(text: &[u8], head: &mut [u8], cells: &mut [u8]) -
 }
 
 // Walk: job text, setting and output number in; the diagram's value out.
-#[unsafe(no_mangle)]
-pub extern "C" fn crossbar_walk(text: &[u8], setting: &[u8], output: u32) -> u64
+pub fn crossbar_walk(text: &[u8], setting: &[u8], output: u32) -> u64
     ensures { WalkCall text.now setting.now output result }
 {
     let walked = jobs::walking::walk(text, setting, output);
@@ -54,13 +52,7 @@ fn light_bytes(x: Crossbar, cells: &[u8], setting: &[u8], firsts: &mut [u8]) -> 
 }
 
 // Light: record, cells and setting in; the first round of every wire and the count of rounds out.
-#[unsafe(no_mangle)]
-pub extern "C" fn crossbar_light(
-    head: &[u8],
-    cells: &[u8],
-    setting: &[u8],
-    firsts: &mut [u8],
-) -> u64
+pub fn crossbar_light(head: &[u8], cells: &[u8], setting: &[u8], firsts: &mut [u8]) -> u64
     ensures { LightCall head.now cells.now setting.now firsts.old result firsts.new }
 {
     if !bytes::holds_record(head) {
@@ -72,8 +64,7 @@ pub extern "C" fn crossbar_light(
 }
 
 // Print: record and cells in; listing text and its length out.
-#[unsafe(no_mangle)]
-pub extern "C" fn crossbar_print(head: &[u8], cells: &[u8], text: &mut [u8]) -> u64
+pub fn crossbar_print(head: &[u8], cells: &[u8], text: &mut [u8]) -> u64
     ensures { PrintCall head.now cells.now text.old result text.new }
 {
     if !bytes::holds_record(head) {
@@ -85,8 +76,7 @@ pub extern "C" fn crossbar_print(head: &[u8], cells: &[u8], text: &mut [u8]) -> 
 }
 
 // Load: listing text in; record and cells out.
-#[unsafe(no_mangle)]
-pub extern "C" fn crossbar_load(text: &[u8], head: &mut [u8], cells: &mut [u8]) -> u64
+pub fn crossbar_load(text: &[u8], head: &mut [u8], cells: &mut [u8]) -> u64
     ensures { LoadCall text.now head.old cells.old result head.new cells.new }
 {
     let loaded = listings::loading::load(text, cells);
