@@ -29,7 +29,7 @@ files = $(addprefix bin/,map_main light_main crossbar) \
 .PHONY: help run test bench soak proved build tool shared draw picture install uninstall clean
 
 help:
-	@echo 'make run        prove and build the two programs, map JOB and light it under SET (2 to 3 minutes the first time)'
+	@echo 'make run        prove and build the two programs, map JOB and light it under SET (about 6 minutes the first time)'
 	@echo 'make test       the gate: every proof, every edit that must fail, every program, every test'
 	@echo 'make build      prove and build the programs, the library and the command crossbar'
 	@echo 'make draw       draw the crossbar of JOB under SET as target/drawing.svg'
