@@ -1,6 +1,6 @@
 -- `crossbar::answers::deliver` meets its contract, by the case of the outcome.
 use Prim.Native.Nat.{◌≤◌}
-use mathlib.Core.Path.{refl, ◌∙◌}
+use mathlib.Core.Path.{◌≡◌, refl, ◌∙◌}
 use native.Mathlib.Omega.{arith}
 use native.Mathlib.Nat.{mul-le-mul_right}
 use lib.ListN.{length}
@@ -28,7 +28,7 @@ pub returns-then-head-lt-RECORD_BYTES : goal.returns-then-head-lt-RECORD_BYTES
 unfolding record_length max_outputs
 returns-then-head-lt-RECORD_BYTES c =
     let args = c.args in
-    let none = c.if-refusal-ne0.false in
+    let none : args.refusal.number ≡ 0 = omega arith in
     let short = c.if-head-lt-RECORD_BYTES.true in
     record {
       answer = written_short args.refusal args.x (length args.head.now) c.refuse.result _ none short
@@ -50,7 +50,7 @@ pub returns : goal.returns
 unfolding record_length max_outputs
 returns c =
     let args = c.args in
-    let none = c.if-refusal-ne0.false in
+    let none : args.refusal.number ≡ 0 = omega arith in
     let room = c.if-head-lt-RECORD_BYTES.false in
     record {
       answer = written_done args.refusal args.x (length args.head.now) _ _ none room refl c.write_record.ensures;
