@@ -38,7 +38,7 @@ help:
 	@echo 'make soak       compare the library with the second implementation on new cases for SECONDS seconds'
 	@echo 'make install    programs, libraries, header and man pages, under DESTDIR and PREFIX'
 	@echo 'make uninstall  remove what make install put there'
-	@echo 'make clean      remove target/; the next proof then begins from nothing'
+	@echo 'make clean      remove target/ and what the prover keeps in crates/*/out'
 	@echo
 	@echo 'JOB=$(JOB) SET="$(SET)" PREFIX=$(PREFIX) SECONDS=$(SECONDS)'
 
@@ -97,4 +97,4 @@ uninstall:
 	rm -f $(addprefix $(to)/,$(files))
 
 clean:
-	rm -rf target
+	rm -rf target crates/*/out

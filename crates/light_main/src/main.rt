@@ -22,10 +22,11 @@ fn write<W: Print, E: Print>(out: &W, errors: &E, input: &[u8], text: &[u8])
 }
 
 fn main(rt: HostRuntime) {
+    let mut reader = rt.stdin();
     let errors = rt.stderr();
     let mut input = io::large_buffer();
     let n = streams::read_input(
-        &rt,
+        &mut reader,
         &errors,
         &mut input,
         b"light_main: could not read the input\n",

@@ -5,7 +5,7 @@
 ghost use Rattle.std.specs.Prelude.{◌+◌, ◌≤◌, length};
 ghost use Rattle.io.specs.Counts.{IsPrefixLen};
 
-use std::io::{Input, Print, Read};
+use std::io::{Print, Read};
 
 // A word on standard error; where it cannot be written nothing more can be told.
 fn tell<E: Print>(errors: &E, failed: &[u8]) {
@@ -34,13 +34,17 @@ fn read_some<R: Read, E: Print>(
 
 // Reads until the buffer is full or the input ends, and answers how many bytes came. A read that fails ends the input, and `failed` goes to
 // standard error.
-pub fn read_input<R: Input, E: Print>(rt: &R, errors: &E, input: &mut [u8], failed: &[u8]) -> usize
+pub fn read_input<R: Read, E: Print>(
+    reader: &mut R,
+    errors: &E,
+    input: &mut [u8],
+    failed: &[u8],
+) -> usize
     ensures { IsPrefixLen result input.new }
 {
-    let mut reader = rt.reader();
     let mut n = 0;
     while n < input.len() {
-        let more = read_some(&mut reader, errors, input, n, failed);
+        let more = read_some(reader, errors, input, n, failed);
         if more == 0 {
             break;
         }
