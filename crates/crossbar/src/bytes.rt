@@ -19,6 +19,7 @@ fn number_at(s: &[u8], i: usize) -> u16
 }
 
 // Whether bytes hold a record: not fewer than it has, and 0 in every byte past it.
+#[tactic(auto, using(crate::proofs::Records::holds_short), unfolding(crate::specs::Bytes::record_length, common::specs::Limits::max_outputs))]
 pub fn holds_record(s: &[u8]) -> bool
     ensures { result ≡ holds_record s.now }
 {

@@ -74,6 +74,7 @@ fn digit_at(text: &[u8], i: usize) -> bool
 
 // Document 01, "Job text": "Figures are decimal, no leading zero, at most 5 digits." The figure at `at`; at most six digits are
 // looked at.
+#[tactic(auto, using(crate::proofs::Digits::reading_one))]
 pub fn read_figure(text: &[u8], at: usize) -> Figure
     ensures { result ≡ figure_at text.now at }
 {

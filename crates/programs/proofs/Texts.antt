@@ -42,6 +42,8 @@ pub reading_dark : (firsts : List ℕ) (r : ℕ) → get_or firsts r 0 ≡ 0 →
 unfolding reading bit
 reading_dark firsts r h = rw h
 
+pub ruleset lit_or_dark = (reading-lit, reading_dark)
+
 -- no outputs, and one more
 pub reads_text_none : (firsts outs : List ℕ) (j k : ℕ) → j ≡ k → reads_text firsts outs j k ≡ []
 unfolding reads_text reads_lines

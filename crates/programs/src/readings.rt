@@ -38,6 +38,7 @@ pub fn refuse(out: &mut [u8], refusal: Refusal) -> usize
 }
 
 // What an output on a row reads: 1 where the row's number is not 0, else 0, and 0 past the last wire.
+#[tactic(auto, using(crate::proofs::Texts::lit_or_dark))]
 fn reading(firsts: &[u16], row: usize) -> u32
     ensures { result ≡ reading firsts.now row }
 {

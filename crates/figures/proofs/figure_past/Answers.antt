@@ -1,6 +1,6 @@
 -- `figures::figure_past` meets its contract: the figure by the values of its first digits, one law for each count of them.
 use Prim.Native.Nat.{◌+◌}
-use mathlib.Core.Path.{sym}
+use mathlib.Core.Path.{◌≡◌, sym}
 use native.Mathlib.Omega.{arith}
 use Rattle.figures.proofs.Straight.{value_inside, straight_none, straight_one, straight_zero, straight_two}
 use Rattle.figures.proofs.figure_past.Goals as goal
@@ -43,4 +43,5 @@ overflow_add-result-then-c-gt9-2 c =
 pub returns-then-c-gt9 : goal.returns-then-c-gt9
 returns-then-c-gt9 c =
     let a = c.args in
-    sym (straight_two a.text.now a.at _ c.digit_value-a.ensures c.if-a-gt9.false _ c.digit_value-b.ensures c.if-b-gt9.false c.if-a-eq0.false _ c.digit_value-c.ensures c.if-c-gt9.true)
+    let some : c.digit_value-a.result ≡ 0 → ⊥ = omega arith in
+    sym (straight_two a.text.now a.at _ c.digit_value-a.ensures c.if-a-gt9.false _ c.digit_value-b.ensures c.if-b-gt9.false some _ c.digit_value-c.ensures c.if-c-gt9.true)

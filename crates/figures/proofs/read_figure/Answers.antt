@@ -2,7 +2,7 @@
 use mathlib.Core.Path.{sym, ◌∙◌}
 use native.Mathlib.Omega.{arith}
 use borrow.Author.Rules.{rules}
-use Rattle.figures.proofs.Digits.{reading-start, reading_small, reading_more, reading_long, reading_none, reading_one, reading_zero, reading_several, digit_inside, digit_range}
+use Rattle.figures.proofs.Digits.{reading-start, reading_small, reading_more, reading_long, reading_none, reading_zero, reading_several, digit_inside, digit_range}
 use Rattle.figures.proofs.read_figure.Goals as goal
 
 pub loop-at-init : goal.loop-at-init
@@ -70,8 +70,3 @@ pub returns-else-text-at-eq-ZERO : goal.returns-else-text-at-eq-ZERO
 returns-else-text-at-eq-ZERO c =
     let h = sym c.digit_at.ensures ∙ c.loop-at-test.false in
     sym (reading_several c.loop-at.invariant h (omega arith) c.if-text-at-eq-ZERO.false)
-
-pub returns-else-i-at-gt1 : goal.returns-else-i-at-gt1
-returns-else-i-at-gt1 c =
-    let h = sym c.digit_at.ensures ∙ c.loop-at-test.false in
-    sym (reading_one c.loop-at.invariant h (omega arith) (omega arith))

@@ -3,7 +3,7 @@ use borrow.Author.Rules.{rules}
 use Prim.Native.Nat.{ℕ, ◌<◌}
 use mathlib.Core.Path.{◌≡◌, refl, sym}
 use native.Mathlib.Omega.{arith}
-use lib.ListN.{length}
+use lib.ListN.{length, get_or}
 use lib.Dec.{eqb}
 use borrow.Author.Tests.{eq-eqb, ne_eqb}
 use Rattle.common.specs.Limits.{max_outputs}
@@ -33,7 +33,7 @@ pub loop-j-preserved : goal.loop-j-preserved
 loop-j-preserved c =
     let a = c.args in
     let within : c.loop-j.j < length a.outs.now = omega (arith, c.requires.1) in
-    let other = ne_eqb _ 0 c.if-outs-j-eq0.false in (
+    let other = ne_eqb (get_or a.outs.now c.loop-j.j 0) 0 (omega arith) in (
       omega arith,
       any_take_more (λ (i : ℕ). eqb i 0) a.outs.now c.loop-j.j within c.loop-j.invariant.1 other,
     )

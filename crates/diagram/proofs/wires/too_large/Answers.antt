@@ -10,4 +10,4 @@ returns-then-size-gt-MAX_ROWS c = rw (lt-ltb 128 c.args.size.rows (omega (arith,
 
 pub returns : goal.returns
 unfolding max_rows max_columns
-returns c = rw (le-ltb 128 _ c.if-size-gt-MAX_ROWS.false)
+returns c = rw (le-ltb 128 c.args.size.rows (omega arith))

@@ -25,7 +25,7 @@ returns-then-end-ne0 c =
 pub returns-then-too_large : goal.returns-then-too_large
 returns-then-too_large c =
     let a = c.args in
-    c.no_job-then-too_large.ensures ∙ end_large _ _ _ a.p.count a.p.outputs a.table.now a.o.outs _ (end_step _ _ _ _ c.end_line-end.ensures) c.if-end-ne0.false _ c.dimensions-size.ensures (sym c.too_large.ensures ∙ c.if-too_large.true)
+    c.no_job-then-too_large.ensures ∙ end_large _ _ _ a.p.count a.p.outputs a.table.now a.o.outs _ (end_step _ _ _ _ c.end_line-end.ensures) (omega arith) _ c.dimensions-size.ensures (sym c.too_large.ensures ∙ c.if-too_large.true)
 
 pub entry_at-zeroth-requires : goal.entry_at-zeroth-requires
 unfolding max_ids
@@ -46,4 +46,4 @@ pub returns : goal.returns
 unfolding entry_in
 returns c =
     let a = c.args in
-    end_done _ _ _ a.p.count a.p.outputs a.table.now a.o.outs _ (end_step _ _ _ _ c.end_line-end.ensures) c.if-end-ne0.false _ c.dimensions-size.ensures (sym c.too_large.ensures ∙ c.if-too_large.false) c.requires.1 c.requires.0.outputs_most _ _ (ap (λ (n : Node). n.x) c.entry_at-zeroth.ensures) (ap (λ (n : Node). n.t) c.entry_at-first.ensures)
+    end_done _ _ _ a.p.count a.p.outputs a.table.now a.o.outs _ (end_step _ _ _ _ c.end_line-end.ensures) (omega arith) _ c.dimensions-size.ensures (sym c.too_large.ensures ∙ c.if-too_large.false) c.requires.1 c.requires.0.outputs_most _ _ (ap (λ (n : Node). n.x) c.entry_at-zeroth.ensures) (ap (λ (n : Node). n.t) c.entry_at-first.ensures)

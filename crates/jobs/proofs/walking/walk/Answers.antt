@@ -22,7 +22,7 @@ pub bounds-job-output : goal.bounds-job-output
 unfolding max_outputs
 bounds-job-output c =
     let few = outs_few _ _ c.read_diagram-read.ensures.answer c.if-refusal-ne0.false in
-    omega (arith, few, c.if-output-job.false)
+    omega (arith, few)
 
 pub walk_value-value-requires : goal.walk_value-value-requires
 walk_value-value-requires c =
@@ -38,4 +38,4 @@ pub returns : goal.returns
 returns c =
     let read = c.read_diagram-read.ensures in
     let set = sym c.is_setting.ensures ∙ c.if-not-is_setting.false in
-    walk_found _ _ _ _ read.answer c.if-refusal-ne0.false set _ _ _ read refl c.if-output-job.false c.walk_value-value.ensures
+    walk_found _ _ _ _ read.answer c.if-refusal-ne0.false set _ _ _ read refl (omega arith) c.walk_value-value.ensures

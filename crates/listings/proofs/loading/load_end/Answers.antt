@@ -32,4 +32,4 @@ returns c =
     let last = ap (λ g. as_end g) c.in-End.is in
     let a = c.args in
     let all : padded max_outputs a.outs ≡ a.outs = padded_full max_outputs a.outs (omega arith) in
-    sym (ap outputs_of (end_last (rows_only a.outs) _ _ _ _ c.end_line-read.ensures last c.if-read-text.false) ∙ rw all)
+    sym (ap outputs_of (end_last (rows_only a.outs) _ _ _ _ c.end_line-read.ensures last (omega arith)) ∙ rw all)

@@ -1,5 +1,6 @@
 -- `placement::filling::edge_cell` meets its contract: one store, or none for terminal 0.
-use mathlib.Core.Path.{sym, ap, ◌∙◌}
+use native.Mathlib.Omega.{arith}
+use mathlib.Core.Path.{◌≡◌, sym, ap, ◌∙◌}
 use borrow.Author.Tests.{eq-eqb, ne_eqb}
 use Rattle.diagram.specs.declared.Node.{Node}
 use Rattle.diagram.specs.Table.{child_of}
@@ -20,7 +21,8 @@ edge_code-code-requires c =
 pub store-requires : goal.store-requires
 store-requires c =
     let child = c.child_of-child.ensures ∙ ap (child_of c.args.edge.high) c.entry_at-node.ensures in
-    rw (c.edge_place-at.ensures, child) (c.requires.edge_fits.place (λ e. c.if-child-ne0.true (child ∙ e)))
+    let some : c.child_of-child.result ≡ 0 → ⊥ = omega arith in
+    rw (c.edge_place-at.ensures, child) (c.requires.edge_fits.place (λ e. some (child ∙ e)))
 
 pub returns-then-child-ne0 : goal.returns-then-child-ne0
 unfolding with_edge

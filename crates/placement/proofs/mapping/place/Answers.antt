@@ -11,9 +11,9 @@ pub fill-requires : goal.fill-requires
 fill-requires c =
     record {
       job_held = c.requires.job_held;
-      cells_value = (c.requires.cells_value, place_fits _ _ c.requires.job_held _ _ c.lacking.ensures c.if-lacking-gt0.false);
+      cells_value = (c.requires.cells_value, place_fits _ _ c.requires.job_held _ _ c.lacking.ensures (omega arith));
     }
 
 pub returns : goal.returns
 returns c =
-    rw (place_done _ _ c.requires.job_held _ _ c.lacking.ensures c.if-lacking-gt0.false) c.fill.ensures
+    rw (place_done _ _ c.requires.job_held _ _ c.lacking.ensures (omega arith)) c.fill.ensures

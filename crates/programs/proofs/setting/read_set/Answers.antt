@@ -62,7 +62,7 @@ pub loop-value-preserved : goal.loop-value-preserved
 unfolding max_switches
 loop-value-preserved c =
     let r = c.loop-value.invariant in
-    reading_more _ _ _ _ r (sym c.byte_at.ensures ∙ c.loop-value-test.true) _ _ (sym c.read_figure.ensures ∙ c.in-At.is) c.if-count-eq-MAX_SWITCHES.false c.if-value-gt1.false
+    reading_more _ _ _ _ r (sym c.byte_at.ensures ∙ c.loop-value-test.true) _ _ (sym c.read_figure.ensures ∙ c.in-At.is) c.if-count-eq-MAX_SWITCHES.false (omega arith)
 
 pub overflow_add-at-2 : goal.overflow_add-at-2
 overflow_add-at-2 c =
