@@ -2,7 +2,7 @@
 use Prim.Native.Nat.{ℕ, ◌+◌, ◌*◌, ◌/◌, ◌≤◌, ◌<◌}
 use mathlib.Core.Path.{◌≡◌, sym, ap, ◌∙◌}
 use mathlib.Core.Logic.Iff
-use mathlib.Core.Logic.{⊎_elim, ◌↔◌}
+use mathlib.Core.Logic.{◌↔◌, inl, inr}
 use mathlib.Core.Bool.{true, not, ◌&&◌}
 use mathlib.Core.List.{List, []}
 use native.Mathlib.Omega.{arith}
@@ -112,13 +112,13 @@ light_short head cells setting room holds right set =
     let w = x.rows + x.columns in
     let is = one_held head (light x cells setting (room / 2)) holds in (
       (λ e.
-          ⊎_elim
-          (λ (h : room < 2 * w). h)
-          (λ (h : 2 * w ≤ room).
-          let none : number_of (host_light head cells setting room) ≡ 0 =
-          ap number_of (is ∙ light_accepts x cells setting (room / 2) right set (omega arith)) in
-          absurd (omega (arith, e, none)))
-          (below_or_not room (2 * w))),
+          elim (below_or_not room (2 * w)) [
+            | inl h ↦ h
+            | inr h ↦
+                let none : number_of (host_light head cells setting room) ≡ 0 =
+                ap number_of (is ∙ light_accepts x cells setting (room / 2) right set (omega arith)) in
+                absurd (omega (arith, e, none))
+          ]),
       (λ h. ap number_of (is ∙ by_14 x cells setting (room / 2) right set (omega arith))),
     )
 

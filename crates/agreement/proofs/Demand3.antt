@@ -1,7 +1,7 @@
 -- Demand 3: for each accepted text, its crossbar, readings, walks, rows, light and walk are as specs/Demand3.antt says.
 use Prim.Native.Nat.{ℕ, ◌+◌, ◌≤◌, ◌<◌}
 use mathlib.Core.Path.{◌≡◌, refl, sym, ap, ◌∙◌}
-use mathlib.Core.Logic.{◌↔◌, ◌⊎◌, inl, inr, ⊎_elim}
+use mathlib.Core.Logic.{◌↔◌, ◌⊎◌, inl, inr}
 use mathlib.Core.Bool.{Bool, true, false, not, ◌&&◌}
 use mathlib.Core.List.{List, [], ◌∷◌, map}
 use native.Mathlib.Omega.{arith}
@@ -42,7 +42,7 @@ tells b P bits e = (
   e,
   (
     (λ z p. let one : b ≡ 1 = e.1 p in omega arith),
-    (λ never. ⊎_elim (λ z. z) (λ o. absurd (never (e.0 o))) bits),
+    (λ never. elim bits [ inl z ↦ z | inr o ↦ absurd (never (e.0 o)) ]),
   ),
 )
 
@@ -52,7 +52,7 @@ shows n P e = (
   e,
   (
     (λ z p. e.1 p z),
-    (λ never. ⊎_elim (λ (z : n ≡ 0). z) (λ (some : n ≡ 0 → ⊥). absurd (never (e.0 some))) (equal_or_not n 0)),
+    (λ never. elim (equal_or_not n 0) [ inl z ↦ z | inr some ↦ absurd (never (e.0 some)) ]),
   ),
 )
 
@@ -108,14 +108,11 @@ module _ (text : List ℕ) (d : Diagram) (facts : Facts d) (sizes : Sizes d) whe
       let ends-j = walk_ends d setting facts (get_or d.outs j 0) (facts.outs_named j hj) in
       let to_j : WalksToOne d setting i → WalksToOne d setting j = λ e. at_j.0 ((agree setting s).0 (at_i.1 e)) in
       let to-i : WalksToOne d setting j → WalksToOne d setting i = λ e. at_i.0 ((agree setting s).1 (at_j.1 e)) in
-      ⊎_elim
-      (λ (zi : walk_end d setting (get_or d.outs i 0) ≡ 0).
-      ⊎_elim
-      (λ (zj : walk_end d setting (get_or d.outs j 0) ≡ 0). zi ∙ sym zj)
-      (λ (oj : WalksToOne d setting j). let oi = to-i oj in oi ∙ sym oj)
-      ends-j)
-      (λ (oi : WalksToOne d setting i). oi ∙ sym (to_j oi))
-      ends-i
+      elim ends-i [
+        | inl zi ↦
+            elim ends-j [ inl zj ↦ zi ∙ sym zj | inr oj ↦ let oi = to-i oj in oi ∙ sym oj ]
+        | inr oi ↦ oi ∙ sym (to_j oi)
+      ]
 
   one_row :
       (i j : ℕ)

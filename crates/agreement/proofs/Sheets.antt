@@ -69,7 +69,7 @@ record Computed : Type 0 where
   cells_room : leb (size (record_from head_a)) 4 ≡ true
 
 computed : Computed
-unfolding head_a cells_a setting_b firsts_b text_a AreBytes number_part low_part in_buffers Rattle.crossbar.specs.Host.host_print Rattle.crossbar.specs.Host.host_load Rattle.listings.specs.Listing.print Rattle.crossbar.specs.Bytes.number_at Rattle.crossbar.specs.Bytes.record_from Rattle.crossbar.specs.Bytes.holds_record Rattle.crossbar.specs.Host.of_record Rattle.crossbar.specs.Host.host_light Rattle.common.specs.Outcome.buffer_of Rattle.crossbar.specs.Bytes.record_length Rattle.crossbar.specs.Bytes.numbers_of Rattle.crossbar.specs.Bytes.pairs Rattle.crossbar.specs.Bytes.record_bytes Rattle.crossbar.specs.Host.packed Rattle.crossbar.specs.Host.for_record Rattle.crossbar.specs.Host.cells_due Rattle.crossbar.specs.Host.host_map numbers refusal lamp job_a diagram_a listing_a job_e job_f job_g listing_h sheets Rattle.cells.specs.Code.code_of Rattle.cells.specs.Code.cell_of Rattle.cells.specs.Conducts.conducts Rattle.cells.specs.Conducts.joins Rattle.cells.specs.Record.size Rattle.cells.specs.Record.in_range Rattle.cells.specs.Record.sound Rattle.cells.specs.Setting.is_setting Rattle.common.specs.Limits.max_rows Rattle.common.specs.Limits.max_columns Rattle.common.specs.Limits.max_switches Rattle.common.specs.Limits.max_nodes Rattle.common.specs.Limits.max_outputs Rattle.common.specs.Limits.max_input Rattle.common.specs.Lists.bit Rattle.common.specs.Lists.padded Rattle.common.specs.Lists.tab Rattle.common.specs.Lists.grid Rattle.common.specs.Lists.some_below Rattle.common.specs.Lists.all_of Rattle.common.specs.Lists.any_of Rattle.common.specs.Lists.same Rattle.common.specs.Outcome.◌then◌ Rattle.common.specs.Outcome.lowest Rattle.common.specs.Outcome.unless Rattle.common.specs.Outcome.number_of Rattle.common.specs.Outcome.line_of Rattle.common.specs.Outcome.value_of Rattle.conduction.specs.Light.joined Rattle.conduction.specs.Light.lit_by Rattle.conduction.specs.Light.light Rattle.conduction.specs.Light.lighted Rattle.conduction.specs.Round.lit Rattle.conduction.specs.Round.start Rattle.conduction.specs.Round.round Rattle.conduction.specs.Round.rounds Rattle.conduction.specs.Round.at_rest Rattle.conduction.specs.Round.first_rest Rattle.conduction.specs.Round.round_count Rattle.conduction.specs.Round.first_among Rattle.conduction.specs.Round.first_round Rattle.conduction.specs.Round.first_rounds Rattle.diagram.specs.Diagram.terminal Rattle.diagram.specs.Diagram.entries Rattle.diagram.specs.Diagram.entry Rattle.diagram.specs.Diagram.id_count Rattle.diagram.specs.Diagram.bare Rattle.diagram.specs.Diagram.with_node Rattle.diagram.specs.Diagram.with_out Rattle.diagram.specs.Faults.head_fault Rattle.diagram.specs.Faults.one_fault Rattle.diagram.specs.Faults.unordered Rattle.diagram.specs.Faults.same_test Rattle.diagram.specs.Faults.alike Rattle.diagram.specs.Faults.node_fault Rattle.diagram.specs.Faults.out_fault Rattle.diagram.specs.Walk.step Rattle.diagram.specs.Walk.steps Rattle.diagram.specs.Walk.walk_end Rattle.diagram.specs.Walk.walk_value Rattle.diagram.specs.Wires.has_row Rattle.diagram.specs.Wires.has_column Rattle.diagram.specs.Wires.owners Rattle.diagram.specs.Wires.row_owners Rattle.diagram.specs.Wires.column_owners Rattle.diagram.specs.Wires.row_of Rattle.diagram.specs.Wires.column_of Rattle.diagram.specs.Wires.names_zero Rattle.diagram.specs.Wires.row_count Rattle.diagram.specs.Wires.column_count Rattle.diagram.specs.Wires.too_large Rattle.figures.specs.Bytes.bytes Rattle.figures.specs.Bytes.after Rattle.figures.specs.Figure.is_digit Rattle.figures.specs.Figure.digits_of Rattle.figures.specs.Figure.is_figure Rattle.figures.specs.Figure.number_from Rattle.figures.specs.Figure.take_figure Rattle.figures.specs.Figure.digits Rattle.figures.specs.Figure.decimal Rattle.figures.specs.Line.onto Rattle.figures.specs.Line.lines_of Rattle.figures.specs.Line.follows Rattle.forms.specs.Due.due Rattle.forms.specs.Form.placed Rattle.forms.specs.Forms.job_form Rattle.forms.specs.Forms.one_form Rattle.forms.specs.Forms.node_form Rattle.forms.specs.Forms.out_form Rattle.forms.specs.Forms.out_lines Rattle.forms.specs.Forms.end_form Rattle.forms.specs.Forms.crossbar_form Rattle.forms.specs.Forms.on_form Rattle.forms.specs.Forms.yes_form Rattle.forms.specs.Forms.no_form Rattle.forms.specs.Forms.refused_form Rattle.forms.specs.Forms.rounds_form Rattle.forms.specs.Forms.reads_form Rattle.forms.specs.Forms.set_figures Rattle.forms.specs.Forms.set_form Rattle.forms.specs.Template.label_of Rattle.forms.specs.Template.letter_of Rattle.forms.specs.Template.values Rattle.forms.specs.Template.written Rattle.forms.specs.Template.line Rattle.jobs.specs.Job.size_tested Rattle.jobs.specs.Job.accepted Rattle.jobs.specs.Job.walk Rattle.jobs.specs.Reading.node_of Rattle.jobs.specs.Reading.read_end Rattle.jobs.specs.Reading.read_outs Rattle.jobs.specs.Reading.read_nodes Rattle.jobs.specs.Reading.read_one Rattle.jobs.specs.Reading.read_head Rattle.jobs.specs.Reading.read_text Rattle.listings.specs.Listing.cell_line Rattle.listings.specs.Listing.cell_lines Rattle.listings.specs.Listing.listing Rattle.listings.specs.Loading.switch_below Rattle.listings.specs.Loading.cell_fault Rattle.listings.specs.Loading.with_cell Rattle.listings.specs.Loading.out_row_fault Rattle.listings.specs.Loading.with_out_row Rattle.listings.specs.Loading.load_end Rattle.listings.specs.Loading.load_outs Rattle.listings.specs.Loading.load_cells Rattle.listings.specs.Loading.sized Rattle.listings.specs.Loading.size_fault Rattle.listings.specs.Loading.load_from Rattle.listings.specs.Loading.record_of Rattle.listings.specs.Loading.cells_of Rattle.listings.specs.Loading.load Rattle.placement.specs.Map.map_job Rattle.placement.specs.Placement.edge Rattle.placement.specs.Placement.meeting Rattle.placement.specs.Placement.code_at Rattle.placement.specs.Placement.cells Rattle.placement.specs.Placement.out_row Rattle.placement.specs.Placement.crossbar Rattle.programs.specs.Programs.program_text Rattle.programs.specs.Programs.input_fits Rattle.programs.specs.Programs.map_program Rattle.programs.specs.Programs.blanks Rattle.programs.specs.Programs.set_line Rattle.programs.specs.Programs.reading Rattle.programs.specs.Programs.reads_lines Rattle.programs.specs.Programs.readings Rattle.programs.specs.Programs.light_and_read Rattle.programs.specs.Programs.light_program
+unfolding head_a cells_a setting_b firsts_b text_a AreBytes number_part low_part in_buffers Rattle.crossbar.specs.Host.host_print Rattle.crossbar.specs.Host.host_load Rattle.listings.specs.Listing.print Rattle.crossbar.specs.Bytes.number_at Rattle.crossbar.specs.Bytes.record_from Rattle.crossbar.specs.Bytes.holds_record Rattle.crossbar.specs.Host.of_record Rattle.crossbar.specs.Host.host_light Rattle.common.specs.Outcome.buffer_of Rattle.crossbar.specs.Bytes.record_length Rattle.crossbar.specs.Bytes.numbers_of Rattle.crossbar.specs.Bytes.pairs Rattle.crossbar.specs.Bytes.record_bytes Rattle.crossbar.specs.Host.packed Rattle.crossbar.specs.Host.for_record Rattle.crossbar.specs.Host.cells_due Rattle.crossbar.specs.Host.host_map numbers refusal lamp job_a diagram_a listing_a job_e job_f job_g listing_h sheets Rattle.cells.specs.Code.code_of Rattle.cells.specs.Code.cell_of Rattle.cells.specs.Conducts.conducts Rattle.cells.specs.Conducts.joins Rattle.cells.specs.Record.size Rattle.cells.specs.Record.in_range Rattle.cells.specs.Record.sound Rattle.cells.specs.Setting.is_setting Rattle.common.specs.Limits.max_rows Rattle.common.specs.Limits.max_columns Rattle.common.specs.Limits.max_switches Rattle.common.specs.Limits.max_nodes Rattle.common.specs.Limits.max_outputs Rattle.common.specs.Limits.max_input Rattle.common.specs.Lists.bit Rattle.common.specs.Lists.padded Rattle.common.specs.Lists.tab Rattle.common.specs.Lists.grid Rattle.common.specs.Lists.some_below Rattle.common.specs.Lists.all_of Rattle.common.specs.Lists.any_of Rattle.common.specs.Lists.same Rattle.common.specs.Outcome.◌then◌ Rattle.common.specs.Outcome.lowest Rattle.common.specs.Outcome.unless Rattle.common.specs.Outcome.number_of Rattle.common.specs.Outcome.line_of Rattle.common.specs.Outcome.value_of Rattle.conduction.specs.Light.joined Rattle.conduction.specs.Light.lit_by Rattle.conduction.specs.Light.light Rattle.conduction.specs.Round.lit Rattle.conduction.specs.Round.start Rattle.conduction.specs.Round.round Rattle.conduction.specs.Round.rounds Rattle.conduction.specs.Round.at_rest Rattle.conduction.specs.Round.first_rest Rattle.conduction.specs.Round.round_count Rattle.conduction.specs.Round.first_among Rattle.conduction.specs.Round.first_round Rattle.conduction.specs.Round.first_rounds Rattle.diagram.specs.Diagram.terminal Rattle.diagram.specs.Diagram.entries Rattle.diagram.specs.Diagram.entry Rattle.diagram.specs.Diagram.id_count Rattle.diagram.specs.Diagram.bare Rattle.diagram.specs.Diagram.with_node Rattle.diagram.specs.Diagram.with_out Rattle.diagram.specs.Faults.head_fault Rattle.diagram.specs.Faults.one_fault Rattle.diagram.specs.Faults.unordered Rattle.diagram.specs.Faults.same_test Rattle.diagram.specs.Faults.alike Rattle.diagram.specs.Faults.node_fault Rattle.diagram.specs.Faults.out_fault Rattle.diagram.specs.Walk.step Rattle.diagram.specs.Walk.steps Rattle.diagram.specs.Walk.walk_end Rattle.diagram.specs.Walk.walk_value Rattle.diagram.specs.Wires.has_row Rattle.diagram.specs.Wires.has_column Rattle.diagram.specs.Wires.owners Rattle.diagram.specs.Wires.row_owners Rattle.diagram.specs.Wires.column_owners Rattle.diagram.specs.Wires.row_of Rattle.diagram.specs.Wires.column_of Rattle.diagram.specs.Wires.names_zero Rattle.diagram.specs.Wires.row_count Rattle.diagram.specs.Wires.column_count Rattle.diagram.specs.Wires.too_large Rattle.figures.specs.Bytes.bytes Rattle.figures.specs.Bytes.after Rattle.figures.specs.Figure.is_digit Rattle.figures.specs.Figure.digits_of Rattle.figures.specs.Figure.is_figure Rattle.figures.specs.Figure.number_from Rattle.figures.specs.Figure.take_figure Rattle.figures.specs.Figure.digits Rattle.figures.specs.Figure.decimal Rattle.figures.specs.Line.onto Rattle.figures.specs.Line.lines_of Rattle.figures.specs.Line.follows Rattle.forms.specs.Due.due Rattle.forms.specs.Form.placed Rattle.forms.specs.Forms.job_form Rattle.forms.specs.Forms.one_form Rattle.forms.specs.Forms.node_form Rattle.forms.specs.Forms.out_form Rattle.forms.specs.Forms.out_lines Rattle.forms.specs.Forms.end_form Rattle.forms.specs.Forms.crossbar_form Rattle.forms.specs.Forms.on_form Rattle.forms.specs.Forms.yes_form Rattle.forms.specs.Forms.no_form Rattle.forms.specs.Forms.refused_form Rattle.forms.specs.Forms.rounds_form Rattle.forms.specs.Forms.reads_form Rattle.forms.specs.Forms.set_figures Rattle.forms.specs.Forms.set_form Rattle.forms.specs.Template.label_of Rattle.forms.specs.Template.letter_of Rattle.forms.specs.Template.values Rattle.forms.specs.Template.written Rattle.forms.specs.Template.line Rattle.jobs.specs.Job.size_tested Rattle.jobs.specs.Job.accepted Rattle.jobs.specs.Job.walk Rattle.jobs.specs.Reading.node_of Rattle.jobs.specs.Reading.read_end Rattle.jobs.specs.Reading.read_outs Rattle.jobs.specs.Reading.read_nodes Rattle.jobs.specs.Reading.read_one Rattle.jobs.specs.Reading.read_head Rattle.jobs.specs.Reading.read_text Rattle.listings.specs.Listing.cell_line Rattle.listings.specs.Listing.cell_lines Rattle.listings.specs.Listing.listing Rattle.listings.specs.Loading.switch_below Rattle.listings.specs.Loading.cell_fault Rattle.listings.specs.Loading.with_cell Rattle.listings.specs.Loading.out_row_fault Rattle.listings.specs.Loading.with_out_row Rattle.listings.specs.Loading.load_end Rattle.listings.specs.Loading.load_outs Rattle.listings.specs.Loading.load_cells Rattle.listings.specs.Loading.sized Rattle.listings.specs.Loading.size_fault Rattle.listings.specs.Loading.load_from Rattle.listings.specs.Loading.record_of Rattle.listings.specs.Loading.cells_of Rattle.listings.specs.Loading.load Rattle.placement.specs.Map.map_job Rattle.placement.specs.Placement.edge Rattle.placement.specs.Placement.meeting Rattle.placement.specs.Placement.code_at Rattle.placement.specs.Placement.cells Rattle.placement.specs.Placement.out_row Rattle.placement.specs.Placement.crossbar Rattle.programs.specs.Programs.program_text Rattle.programs.specs.Programs.input_fits Rattle.programs.specs.Programs.map_program Rattle.programs.specs.Programs.blanks Rattle.programs.specs.Programs.set_line Rattle.programs.specs.Programs.reading Rattle.programs.specs.Programs.reads_lines Rattle.programs.specs.Programs.readings Rattle.programs.specs.Programs.light_and_read Rattle.programs.specs.Programs.light_program
 computed =
     record {
       table = refl;

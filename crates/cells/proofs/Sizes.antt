@@ -1,17 +1,18 @@
 -- What a record in range, a sound record and a setting have: the sizes within their limits, the cells, and a byte for each switch.
-use Prim.Native.Nat.{ℕ, ◌*◌, ◌≤◌}
-use mathlib.Core.Path.{◌≡◌}
-use mathlib.Core.Bool.{Bool, true, ◌&&◌}
+use Prim.Native.Nat.{ℕ, ◌*◌, ◌≤◌, ◌<◌}
+use mathlib.Core.Path.{◌≡◌, ◌∙◌}
+use mathlib.Core.Bool.{Bool, true, false, ◌&&◌}
+use Rattle.std.proofs.Math.Bool.{and_assoc}
 use mathlib.Core.List.{List}
 use native.Mathlib.Nat.{mul-le-mul}
 use lib.ListN.{length, take, drop}
 use lib.Dec.{eqb, leb, ltb}
-use borrow.Author.Tests.{leb-true, eqb-true}
+use borrow.Author.Tests.{le-leb, lt-leb, leb-true, eqb-true}
 use Rattle.common.specs.Limits.{max_rows, max_columns, max_switches, max_outputs}
 use Rattle.common.specs.Lists.{all_of}
 use Rattle.common.proofs.Lists.{and_left, and_right}
 use Rattle.cells.specs.declared.Crossbar.{Crossbar}
-use Rattle.cells.specs.Record.{codes_low, in_range, Whole, size, sound}
+use Rattle.cells.specs.Record.{codes_low, in_range, Whole, size, cells_fit, outs_fit, sound}
 use Rattle.cells.specs.Setting.{is_setting}
 
 -- sizes in range, as plain facts
@@ -58,18 +59,36 @@ in_range_lem r c v k h =
       cells_most = mul-le-mul rows columns;
     }
 
--- the six tests of ground 12 on a record, and their outcomes
-pub sound_by :
-    (x : Crossbar) (cells : List ℕ) (a b c d e f : Bool)
-    → in_range x.rows x.columns x.switches x.outputs ≡ a
-    → leb (x.rows * x.columns) (length cells) ≡ b
-    → all_of (λ k. eqb k 0) (drop (x.rows * x.columns) cells) ≡ c
-    → codes_low x.switches (take (x.rows * x.columns) cells) ≡ d
-    → all_of (λ o. ltb o x.rows) (take x.outputs x.outs) ≡ e
-    → all_of (λ o. eqb o 0) (drop x.outputs x.outs) ≡ f
-    → sound x cells ≡ a && b && c && d && e && f
-unfolding sound size
-sound_by x cells a b c d e f ea eb ec ed ee ef = rw (sound, ea, eb, ec, ed, ee, ef)
+-- ground 12 on a record, by its parts
+regroup : (a b c d e f : Bool) → a && b && c && d && e && f ≡ a && (b && c && d && (e && f))
+regroup a b c d e f = simp and_assoc
+
+pub sound_parts :
+    (x : Crossbar) (cells : List ℕ)
+    → sound x cells ≡ in_range x.rows x.columns x.switches x.outputs && (cells_fit x cells && outs_fit x)
+unfolding sound cells_fit outs_fit
+sound_parts x cells =
+    regroup (in_range x.rows x.columns x.switches x.outputs) (leb (size x) (length cells)) (all_of (λ b. eqb b 0) (drop (size x) cells))
+    (codes_low x.switches (take (size x) cells)) (all_of (λ r. ltb r x.rows) (take x.outputs x.outs))
+    (all_of (λ r. eqb r 0) (drop x.outputs x.outs))
+
+pub sound_none : (x : Crossbar) (cells : List ℕ) → in_range x.rows x.columns x.switches x.outputs ≡ false → sound x cells ≡ false
+sound_none x cells h = sound_parts x cells ∙ rw h
+
+pub sound_some :
+    (x : Crossbar) (cells : List ℕ) → in_range x.rows x.columns x.switches x.outputs ≡ true → sound x cells ≡ cells_fit x cells && outs_fit x
+sound_some x cells h = sound_parts x cells ∙ rw h
+
+-- the part on the cells, where they are split at their number; and where there are too few
+pub cells_fit_split :
+    (x : Crossbar) (cells codes past : List ℕ) → size x ≤ length cells → codes ≡ take (size x) cells → past ≡ drop (size x) cells
+    → cells_fit x cells ≡ all_of (λ b. eqb b 0) past && codes_low x.switches codes
+unfolding cells_fit
+cells_fit_split x cells codes past h e f = rw (e, f, le-leb (size x) (length cells) h)
+
+pub cells_fit_short : (x : Crossbar) (cells : List ℕ) → length cells < size x → cells_fit x cells ≡ false
+unfolding cells_fit
+cells_fit_short x cells h = rw (lt-leb (size x) (length cells) h)
 
 -- a sound crossbar, as plain facts
 pub record Sound (x : Crossbar) (cells : List ℕ) : Type 0 where

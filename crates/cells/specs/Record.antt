@@ -26,6 +26,15 @@ in_range r c v k = leb 1 r && leb r max_rows && leb c max_columns && leb v max_s
 abbrev pub codes_low : ℕ → List ℕ → Bool
 codes_low v codes = all_of (λ k. leb k (1 + 2 * v)) codes
 
+-- the parts of ground 12 on the cells and on the output rows, for the inner checks of src/checks.rt; `sound_parts` in proofs/Sizes.antt puts
+-- them together
+unfoldable pub cells_fit : Crossbar → List ℕ → Bool
+cells_fit x cells =
+    leb (size x) (length cells) && all_of (λ b. eqb b 0) (drop (size x) cells) && codes_low x.switches (take (size x) cells)
+
+unfoldable pub outs_fit : Crossbar → Bool
+outs_fit x = all_of (λ r. ltb r x.rows) (take x.outputs x.outs) && all_of (λ r. eqb r 0) (drop x.outputs x.outs)
+
 -- a record and cells that ground 12 does not refuse: the sizes in range, the slice not shorter than R-as-C and its bytes past it 0, no
 -- code above 1 + 2·V, each output row below R and each unused one 0
 unfoldable pub sound : Crossbar → List ℕ → Bool

@@ -1,4 +1,5 @@
 pub mod Lists
 pub mod Outcome
 pub mod Within
-pub mod Cleared
+pub mod Faults
+pub mod FromFn

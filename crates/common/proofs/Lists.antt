@@ -5,10 +5,9 @@ use mathlib.Core.Logic.{◌⊎◌, inl, inr, ⊎_elim}
 use mathlib.Core.Bool.{Bool, true, false, ◌&&◌, ◌||◌}
 use mathlib.Core.List.{List, [], ◌∷◌, ◌++◌, map, append_assoc, append-nil}
 use native.Mathlib.Omega.{arith}
-use native.Mathlib.Numerals.{add-one}
 use native.Mathlib.Nat.{eq-or-lt_of_le, mul-le-mul_right, zero-mul}
 use lib.ListN.{length, get_or, set, take, drop, length-append, length-replicate, replicate-append-replicate, get_or-append}
-use lib.Seq.{drop-cons, get_or-append-add, get_or_at, set_at, take_at}
+use lib.Seq.{get_or-append-add, get_or_at, take_at}
 use lib.Dec.{eqb, ltb}
 use borrow.Author.Tests.{eqb-true, eqb-false, eq-eqb, ltb-true, ltb-false}
 use Rattle.common.specs.Lists.{bit, zeros, padded, tab, grid, some_below, all_of, any_of, same}
@@ -119,14 +118,6 @@ unfolding tab
 tab_agree zero f g same = refl
 tab_agree (suc n) f g same =
     rw (tab_agree n f g (λ k below. same k (omega arith)), same n (omega arith))
-
--- a table before the rest of a list, with one entry more
-pub tab_more :
-    (f : ℕ → ℕ) (i : ℕ) (l : List ℕ) → i < length l → set (tab i f ++ drop i l) i (f i) ≡ tab (i + 1) f ++ drop (i + 1) l
-unfolding tab
-tab_more f i l h =
-    rw (add-one, drop-cons l i 0 h)
-    (set_at (tab i f) (get_or l i 0) (drop (suc i) l) (f i) i (length-tab i f) ∙ sym (append_assoc (tab i f) (f i ∷ []) (drop (suc i) l)))
 
 -- where a row and a column meet, in a grid kept row by row
 pub within_grid : (m n r c : ℕ) → r < m → c < n → r * n + c < m * n

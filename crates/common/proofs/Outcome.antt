@@ -37,9 +37,3 @@ then_is o a f e = rw e
 pub unless_none : {A : Type 0} (k n : ℕ) (o : Outcome A) → k ≡ 0 → unless k n o ≡ o
 unfolding unless
 unless_none k n o e = rw e
-
--- a number is a refusal
-pub unless_some : {A : Type 0} (k n : ℕ) (o : Outcome A) → (k ≡ 0 → ⊥) → unless k n o ≡ refused k n
-unfolding unless
-unless_some zero n o h = absurd (h refl)
-unless_some (suc k) n o h = refl

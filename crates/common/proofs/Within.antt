@@ -7,7 +7,7 @@ use native.Mathlib.Omega.{arith}
 use lib.Dec.{leb}
 use borrow.Author.Tests.{leb-true}
 use Rattle.common.specs.Limits.{max_rows, max_columns, max_nodes, max_outputs}
-use Rattle.common.specs.Outcome.{Outcome, done, refused, ◌then◌, Ground, ◌when◌, lowest, most_number, unless, number_of, refusal_of}
+use Rattle.common.specs.Outcome.{Outcome, done, refused, ◌then◌, Ground, ◌when◌, lowest, most_number, unless}
 use Rattle.common.proofs.Lists.{and_left, and_right}
 
 -- what is done is as P says; a refusal has one of the numbers 1 to 15, and its line is at most b
@@ -18,17 +18,6 @@ pub data EndsWithin {A : Type 0} (P : A → Type 0) (b : ℕ) : Outcome A → Ty
 -- a line above the last one that a job or a listing can have: a listing has no more cell lines than cells
 unfoldable pub most_line : ℕ
 most_line = max_rows * max_columns + max_nodes + max_outputs + 4
-
-pub number_most : {A : Type 0} {P : A → Type 0} {b : ℕ} (o : Outcome A) → EndsWithin P b o → (refusal_of o).number ≤ most_number
-unfolding refusal_of number_of most_number
-number_most (done a) p = omega arith
-number_most (refused k n) (ends_refused low high l) = high
-
--- no refusal has number 0, so an outcome with number 0 is done
-pub zero_done : {A : Type 0} {P : A → Type 0} {b : ℕ} (o : Outcome A) → EndsWithin P b o → number_of o ≡ 0 → (a : A) × (o ≡ done a) × P a
-unfolding number_of
-zero_done (done a) (ends_done p) e = (a, refl, p)
-zero_done (refused k l) (ends_refused low high n) e = absurd (omega arith)
 
 -- steps in turn
 pub then_ends :

@@ -1,6 +1,7 @@
--- All four are the law: contracts and theorems of every crate rest on them. A working definition, which only inner contracts cite:
--- `most_number` in Outcome.
+-- All five are the law: contracts and theorems of every crate rest on them. Working definitions, which only inner contracts cite:
+-- `most_number` in Outcome, `tested` and `Goes` in Fault.
 pub mod Labels
 pub mod Limits
 pub mod Lists
 pub mod Outcome
+pub mod Fault

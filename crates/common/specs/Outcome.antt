@@ -1,7 +1,6 @@
 -- How a call or a reading ends. Document 01, "Grounds for sending a job back": "A refusal is its number and a line .., zeros in
 -- the whole output buffer, and 0 as value, rounds or field of a record."
 use Rattle.std.specs.Prelude.{ℕ, zero, suc, Bool, true, false, ◌≡◌, List, [], ◌∷◌}
-use Rattle.common.specs.declared.Refusal.{Refusal}
 use Rattle.common.specs.Lists.{zeros, padded}
 
 infixl 20 ◌then◌
@@ -43,10 +42,6 @@ number_of (refused k l) = k
 unfoldable pub line_of : {A : Type 0} → Outcome A → ℕ
 line_of (done a) = 0
 line_of (refused k l) = l
-
--- the refusal of an outcome, as the calls hand it over
-unfoldable pub refusal_of : {A : Type 0} → Outcome A → Refusal
-refusal_of o = record { number = number_of o; line = line_of o }
 
 -- the value of an outcome, and what stands in its place after a refusal
 unfoldable pub value_of : {A B : Type 0} → B → (A → B) → Outcome A → B

@@ -6,7 +6,8 @@ use mathlib.Core.Logic.{inl, inr, ⊎_elim}
 use mathlib.Core.Bool.{Bool, true, false}
 use mathlib.Core.List.{List}
 use native.Mathlib.Omega.{arith}
-use native.Mathlib.Nat.{mul-le-mul_left}
+use native.Mathlib.Nat.{le_trans, mul-le-mul_right}
+use borrow.Rule.Slice.PartMut.{put_mid}
 use lib.ListN.{length, get_or}
 use lib.Seq.{ext_get_or}
 use lib.Dec.{ltb}
@@ -16,29 +17,27 @@ use Rattle.common.specs.Lists.{tab}
 use Rattle.common.proofs.Lists.{by_test, below_or_not, equal_or_not, not-zero, length-tab, get_or-tab, within_grid}
 use Rattle.conduction.specs.Round.{at_rest, is_new, first_round, Rounded}
 use Rattle.conduction.specs.Stamps.{stamps_after}
+use Rattle.conduction.specs.declared.Key.{Key}
+use Rattle.conduction.specs.declared.Lamp.{Lamp}
 use Rattle.conduction.specs.Wires.{
-  unit,
-  place_of,
-  adds_of,
-  wire_of,
+  no_key,
+  part,
   passes,
   passing,
   joined_to,
-  CodeTable,
   Spreadable,
   InPlaces,
   Sorted,
   NewlyStamped,
+  Crossed,
   TurnReady,
   Standing,
   Fits,
 }
 use Rattle.conduction.proofs.First.{first_most, rest_none_new, none_new_rest}
 use Rattle.conduction.proofs.Stamps.{meets, stamp, reached, meets_across, meets_back, meets_is, Across, stamps_entry, stamp_is_new}
-use Rattle.conduction.proofs.Sorting.{exchanged_all}
+use Rattle.conduction.proofs.Sorting.{part_long, part_entry, rest_long, rest_entry, put_long, put_part, sorted_rest}
 use Rattle.conduction.proofs.Turns.{
-  place_wire,
-  adds_wire,
   Sides,
   turned_entry,
   turned_ready,
@@ -49,8 +48,8 @@ use Rattle.conduction.proofs.Turns.{
 
 -- what a round does: the stamps after it, whether it added a wire, and that the next round can follow. The wires that it added stand from
 -- `dark` up to `end`.
-pub record Turned (on cells rows columns stamps rows' columns' stamps' : List ℕ) (t tail dark end : ℕ) : Type 0 where
-  pub rounded : Rounded (length rows) (length columns) (passing on cells (length columns)) t stamps stamps' (ltb dark end)
+pub record Turned (lamp : Lamp) (rows columns : List Key) (stamps : List ℕ) (rows' columns' : List Key) (stamps' : List ℕ) (t tail dark end : ℕ) : Type 0 where
+  pub rounded : Rounded (length rows) (length columns) (passing lamp (length columns)) t stamps stamps' (ltb dark end)
   pub standing : Standing rows' columns' stamps' (t + 1) dark end tail
 
 -- what a round does to the stamps, from their entries, where they were the first rounds so far
@@ -95,16 +94,8 @@ rounded_by m n joined t dark end stamps stamps' so_far long order entries none s
     }
 
 -- the wires of both sides
-module _ (m n : ℕ) (on cells : List ℕ) (rows_fit : m ≤ max_rows) (columns_fit : n ≤ max_columns) where
-  pub row_small : (r : ℕ) → r < m → r * n < unit
-  unfolding unit max_rows max_columns
-  row_small r h = omega (arith, mul-le-mul_left r columns_fit)
-
-  pub column_small : (c : ℕ) → c < n → c * 1 < unit
-  unfolding unit max_columns
-  column_small c h = omega arith
-
-  pub rows_columns : Sides m n (passing on cells n) on cells 0 n m m 1 n
+module _ (m n : ℕ) (lamp : Lamp) where
+  pub rows_columns : Sides m n (passing lamp n) lamp 0 n m m 1 n
   unfolding passing
   rows_columns =
       record {
@@ -112,23 +103,21 @@ module _ (m n : ℕ) (on cells : List ℕ) (rows_fit : m ≤ max_rows) (columns_
             λ r c h k.
             let row : 0 + r ≡ r = omega arith in
             let at : r * n + c ≡ r * n + c * 1 = omega arith in
-            ap (λ (u : ℕ). meets m n (passing on cells n) u (m + c)) row ∙ meets_across m n (passing on cells n) r c h k ∙ ap (passes on cells) at;
+            ap (λ (u : ℕ). meets m n (passing lamp n) u (m + c)) row ∙ meets_across m n (passing lamp n) r c h k ∙ ap (passes lamp) at;
         ends =
             λ u v e.
             ⊎_elim
-            (λ (a : Across m n (passing on cells n) u v).
+            (λ (a : Across m n (passing lamp n) u v).
             inl (
               (u, a.row_below, omega arith),
               (v - m, omega (arith, a.from, a.column_below), omega (arith, a.from)),
             ))
-            (λ (a : Across m n (passing on cells n) v u). inr (u - m, omega (arith, a.from, a.column_below), omega (arith, a.from)))
-            (meets_is m n (passing on cells n) u v e);
+            (λ (a : Across m n (passing lamp n) v u). inr (u - m, omega (arith, a.from, a.column_below), omega (arith, a.from)))
+            (meets_is m n (passing lamp n) u v e);
         apart = λ r c h k e. omega arith;
-        small = row_small;
-        small' = column_small;
       }
 
-  pub columns_rows : Sides m n (passing on cells n) on cells m 1 n 0 n m
+  pub columns_rows : Sides m n (passing lamp n) lamp m 1 n 0 n m
   unfolding passing
   columns_rows =
       record {
@@ -136,162 +125,190 @@ module _ (m n : ℕ) (on cells : List ℕ) (rows_fit : m ≤ max_rows) (columns_
             λ c r k h.
             let row : 0 + r ≡ r = omega arith in
             let at : r * n + c ≡ c * 1 + r * n = omega arith in
-            ap (meets m n (passing on cells n) (m + c)) row ∙ meets_back m n (passing on cells n) r c h k ∙ ap (passes on cells) at;
+            ap (meets m n (passing lamp n) (m + c)) row ∙ meets_back m n (passing lamp n) r c h k ∙ ap (passes lamp) at;
         ends =
             λ u v e.
             ⊎_elim
-            (λ (a : Across m n (passing on cells n) u v). inr (u, a.row_below, omega arith))
-            (λ (a : Across m n (passing on cells n) v u).
+            (λ (a : Across m n (passing lamp n) u v). inr (u, a.row_below, omega arith))
+            (λ (a : Across m n (passing lamp n) v u).
             inl (
               (u - m, omega (arith, a.from, a.column_below), omega (arith, a.from)),
               (v, a.row_below, omega arith),
             ))
-            (meets_is m n (passing on cells n) u v e);
+            (meets_is m n (passing lamp n) u v e);
         apart = λ c r k h e. omega arith;
-        small = column_small;
-        small' = row_small;
       }
 
-module _
-    (on cells rows columns stamps stamps' : List ℕ)
-    (t head tail dark end : ℕ)
-    (fits : Fits on cells rows columns stamps)
-    (standing : Standing rows columns stamps t head tail dark)
-    (so_far : stamps ≡ stamps_after (length stamps) (length rows) (length columns) (passing on cells (length columns)) t)
-    (long_stamps : length stamps' ≡ length stamps)
-  where
-    -- from rows to columns
-    pub turn_across :
-        (columns' : List ℕ) → t % 2 ≡ 0 → length columns' ≡ length columns
-        → Sorted (joined_to on cells rows head tail) dark columns columns' end (length columns)
-        → NewlyStamped columns' dark end (t + 2) stamps stamps'
-        → Turned on cells rows columns stamps rows columns' stamps' t tail dark end
-    turn_across columns' parity long sorted marked =
-        let m = length rows in
-        let n = length columns in
-        let sides = rows_columns m n on cells fits.rows_fit fits.columns_fit in
-        let ready = standing.even parity in
-        let j = passing on cells n in
-        let last : t + 2 ≡ t + 1 + 1 = omega arith in
-        record {
-          rounded =
-              rounded_by m n j t dark end stamps stamps' so_far long_stamps sorted.from
-              (turned_entry m n j on cells 0 n m 1 rows columns columns' stamps stamps' t head tail dark end sides ready standing.most long sorted marked)
-              (turned_none m n j on cells 0 n m 1 rows columns columns' stamps stamps' t head tail dark end sides ready standing.most long sorted marked)
-              (turned_some m n j on cells 0 n m 1 rows columns columns' stamps stamps' t head tail dark end sides ready standing.most long sorted marked);
-          standing =
-              record {
-                most = turned_most m n j on cells 0 n m 1 rows columns columns' stamps stamps' t head tail dark end sides ready standing.most long sorted marked;
-                even = λ e. absurd (omega arith);
-                odd =
-                    λ e.
-                    rw (long, ← last)
-                    (turned_ready m n j on cells 0 n m 1 rows columns columns' stamps stamps' t head tail dark end sides ready standing.most long sorted marked);
-              };
-        }
-
-    -- and back
-    pub turn_back :
-        (rows' : List ℕ) → (t % 2 ≡ 0 → ⊥) → length rows' ≡ length rows
-        → Sorted (joined_to on cells columns head tail) dark rows rows' end (length rows)
-        → NewlyStamped rows' dark end (t + 2) stamps stamps'
-        → Turned on cells rows columns stamps rows' columns stamps' t tail dark end
-    turn_back rows' parity long sorted marked =
-        let m = length rows in
-        let n = length columns in
-        let sides = columns_rows m n on cells fits.rows_fit fits.columns_fit in
-        let ready = standing.odd parity in
-        let j = passing on cells n in
-        let last : t + 2 ≡ t + 1 + 1 = omega arith in
-        record {
-          rounded =
-              rounded_by m n j t dark end stamps stamps' so_far long_stamps sorted.from
-              (turned_entry m n j on cells m 1 0 n columns rows rows' stamps stamps' t head tail dark end sides ready standing.most long sorted marked)
-              (turned_none m n j on cells m 1 0 n columns rows rows' stamps stamps' t head tail dark end sides ready standing.most long sorted marked)
-              (turned_some m n j on cells m 1 0 n columns rows rows' stamps stamps' t head tail dark end sides ready standing.most long sorted marked);
-          standing =
-              record {
-                most = turned_most m n j on cells m 1 0 n columns rows rows' stamps stamps' t head tail dark end sides ready standing.most long sorted marked;
-                even =
-                    λ e.
-                    rw (long, ← last)
-                    (turned_ready m n j on cells m 1 0 n columns rows rows' stamps stamps' t head tail dark end sides ready standing.most long sorted marked);
-                odd = λ e. absurd (e (⊎_elim (λ (z : t % 2 ≡ 0). absurd (parity z)) (λ (z : t % 2 ≡ 0 → ⊥). omega (arith, not-zero (t % 2) z)) (equal_or_not (t % 2) 0)));
-              };
-        }
-
--- what the parts of a round ask for: the cells where the wires meet are there, and each wire has its place among the stamps
+-- a crossing from one side to the other: what it asks for, and what it leaves
 module _
     (m n : ℕ)
     (joined : ℕ → ℕ → Bool)
-    (on cells : List ℕ)
+    (lamp : Lamp)
     (first step first' step' : ℕ)
-    (from to stamps : List ℕ)
+    (from to : List Key)
+    (stamps : List ℕ)
     (last head tail dark : ℕ)
-    (sides : Sides m n joined on cells first step (length from) first' step' (length to))
+    (sides : Sides m n joined lamp first step (length from) first' step' (length to))
     (ready : TurnReady first step first' step' from to stamps last head tail dark)
   where
+    -- the cells where the wires meet are there
     spreadable :
-        CodeTable on → ((x y : ℕ) → x < length from → y < length to → x * step + y * step' < length cells)
-        → Spreadable on cells from to head tail dark
-    spreadable table fit =
+        ((x : ℕ) → x < length from → x * step ≤ length lamp.cells.now)
+        → ((x y : ℕ) → x < length from → y < length to → x * step + y * step' < length lamp.cells.now)
+        → Spreadable lamp (part from head tail) (part to dark (length to))
+    spreadable begin fit =
+        let fronts = part_long from head tail ready.front.within in
+        let rest = rest_long to dark ready.others.within in
         record {
-          order = ready.front.order;
-          within = ready.front.within;
-          dark_within = ready.others.within;
-          table = table;
+          begins =
+              λ j p.
+              let a = ready.lit.each (head + j) (omega (arith, p, fronts, ready.front.within)) in
+              rw (part_entry from head tail j no_key (omega (arith, p, fronts)), a.2) (begin a.0 a.1);
           meeting =
-              λ j p k q.
-              let a = ready.lit.each j p in
-              let b = ready.others.each k q in
-              let adds = ap adds_of a.2 ∙ adds_wire first step a.0 (sides.small a.0 a.1) in
-              let adds' = ap adds_of b.2 ∙ adds_wire first' step' b.0 (sides.small' b.0 b.1) in
-              omega (arith, fit a.0 b.0 a.1 b.1);
+              λ j k p q.
+              let a = ready.lit.each (head + j) (omega (arith, p, fronts, ready.front.within)) in
+              let b = ready.others.each (dark + k) (omega (arith, q, rest)) in
+              rw (part_entry from head tail j no_key (omega (arith, p, fronts)), rest_entry to dark ready.others.within k, a.2, b.2)
+              (fit a.0 b.0 a.1 b.1);
         }
 
-    placed :
-        (f : ℕ → Bool) (to' : List ℕ) (end : ℕ) → length to' ≡ length to → Sorted f dark to to' end (length to) → first' + length to ≤ length stamps
-        → (dark ≤ end) × (end ≤ length to') × InPlaces to' stamps
-    placed f to' end long sorted fit = (
-      sorted.from,
-      omega (arith, sorted.upto),
-      λ k h.
-          let there =
-          exchanged_all (λ w. (x : ℕ) × (x < length to) × (w ≡ wire_of first' step' x)) dark to to' sorted.exchanged ready.others.each k (omega arith) in
-          let place = ap place_of there.2 ∙ place_wire first' step' there.0 (sides.small' there.0 there.1) in
-          omega (arith, there.1),
+    -- and each dark wire has its place among the stamps
+    placed : first' + length to ≤ length stamps → InPlaces (part to dark (length to)) stamps
+    placed fit =
+        λ k q.
+        let b = ready.others.each (dark + k) (omega (arith, q, rest_long to dark ready.others.within)) in
+        let place = ap (λ (w : Key). w.place) (rest_entry to dark ready.others.within k ∙ b.2) in
+        omega (arith, place, b.1)
+
+-- the list of the other side after a crossing
+abbrev pub crossed_list : List Key → (dark : ℕ) → List Key → List Key
+crossed_list to dark dark' = put_mid dark (length to - dark) to dark'
+
+module _
+    (lamp : Lamp)
+    (from to dark' : List Key)
+    (stamps stamps' : List ℕ)
+    (new head tail dark reached : ℕ)
+    (within : dark ≤ length to)
+    (long : length dark' ≡ length (part to dark (length to)))
+    (crossed : Crossed lamp (part from head tail) new (part to dark (length to)) dark' stamps stamps' reached)
+  where
+    crossed_sorted : Sorted (joined_to lamp (part from head tail)) dark to (crossed_list to dark dark') (dark + reached) (length to)
+    crossed_sorted = sorted_rest to dark within dark' long (joined_to lamp (part from head tail)) reached crossed.sorted
+
+    crossed_stamps : NewlyStamped (part (crossed_list to dark dark') dark (dark + reached)) new stamps stamps'
+    crossed_stamps = rw (put_part to dark within dark' long reached) crossed.stamped
+
+module _
+    (lamp : Lamp)
+    (rows columns dark' : List Key)
+    (stamps stamps' : List ℕ)
+    (t head tail dark reached : ℕ)
+    (fits : Fits lamp (length rows) (length columns) stamps)
+    (standing : Standing rows columns stamps t head tail dark)
+  where
+    abbrev across_sides : Sides (length rows) (length columns) (passing lamp (length columns)) lamp 0 (length columns) (length rows) (length rows) 1 (length columns)
+    across_sides = rows_columns (length rows) (length columns) lamp
+
+    row_within : (r : ℕ) → r < length rows → r ≤ length rows
+    row_within r h = omega arith
+
+    abbrev back_sides : Sides (length rows) (length columns) (passing lamp (length columns)) lamp (length rows) 1 (length columns) 0 (length columns) (length rows)
+    back_sides = columns_rows (length rows) (length columns) lamp
+
+    -- what a crossing from rows to columns asks for
+    pub asks_across : t % 2 ≡ 0 → Spreadable lamp (part rows head tail) (part columns dark (length columns)) × InPlaces (part columns dark (length columns)) stamps
+    asks_across parity = (
+      spreadable _ _ _ _ _ _ _ _ _ _ _ _ _ _ _ across_sides (standing.even parity)
+          (λ r p. le_trans (mul-le-mul_right (length columns) (row_within r p)) fits.cells_fit)
+          (λ r c p q. omega (arith, within_grid (length rows) (length columns) r c p q, fits.cells_fit)),
+      placed _ _ _ _ _ _ _ _ _ _ _ _ _ _ _ across_sides (standing.even parity) fits.wires_fit,
     )
 
-module _ (on cells rows columns stamps : List ℕ) (t head tail dark : ℕ) (fits : Fits on cells rows columns stamps) (standing : Standing rows columns stamps t head tail dark) where
-  abbrev rows_there : Sides (length rows) (length columns) (passing on cells (length columns)) on cells 0 (length columns) (length rows) (length rows) 1 (length columns)
-  rows_there = rows_columns (length rows) (length columns) on cells fits.rows_fit fits.columns_fit
+    -- and back
+    pub asks_back : (t % 2 ≡ 0 → ⊥) → Spreadable lamp (part columns head tail) (part rows dark (length rows)) × InPlaces (part rows dark (length rows)) stamps
+    asks_back parity = (
+      spreadable _ _ _ _ _ _ _ _ _ _ _ _ _ _ _ back_sides (standing.odd parity)
+          (λ c q. omega (arith, within_grid (length rows) (length columns) 0 c fits.row_0 q, fits.cells_fit))
+          (λ c r q p. omega (arith, within_grid (length rows) (length columns) r c p q, fits.cells_fit)),
+      placed _ _ _ _ _ _ _ _ _ _ _ _ _ _ _ back_sides (standing.odd parity) (omega (arith, fits.wires_fit)),
+    )
 
-  abbrev columns_there : Sides (length rows) (length columns) (passing on cells (length columns)) on cells (length rows) 1 (length columns) 0 (length columns) (length rows)
-  columns_there = columns_rows (length rows) (length columns) on cells fits.rows_fit fits.columns_fit
+    -- a stamp is a number of 16 bits
+    pub stamp_fits : t < length rows + length columns → t + 2 < 65536
+    unfolding max_rows max_columns
+    stamp_fits h = omega (arith, fits.rows_fit, fits.columns_fit)
 
-  pub spread_across : t % 2 ≡ 0 → Spreadable on cells rows columns head tail dark
-  spread_across parity =
-      spreadable _ _ _ _ _ _ _ _ _ _ _ _ _ _ _ _ rows_there (standing.even parity) fits.table
-      (λ r c p q. omega (arith, within_grid (length rows) (length columns) r c p q, fits.cells_fit))
+    module _
+        (so_far : stamps ≡ stamps_after (length stamps) (length rows) (length columns) (passing lamp (length columns)) t)
+        (long_stamps : length stamps' ≡ length stamps)
+      where
+        -- from rows to columns
+        pub turn_across :
+            t % 2 ≡ 0 → length dark' ≡ length (part columns dark (length columns))
+            → Crossed lamp (part rows head tail) (t + 2) (part columns dark (length columns)) dark' stamps stamps' reached
+            → Turned lamp rows columns stamps rows (crossed_list columns dark dark') stamps' t tail dark (dark + reached)
+        turn_across parity long crossed =
+            let m = length rows in
+            let n = length columns in
+            let ready = standing.even parity in
+            let within = ready.others.within in
+            let j = passing lamp n in
+            let last : t + 2 ≡ t + 1 + 1 = omega arith in
+            let columns' = crossed_list columns dark dark' in
+            let end = dark + reached in
+            let long' = put_long columns dark within dark' long in
+            let sorted = crossed_sorted lamp rows columns dark' stamps stamps' (t + 2) head tail dark reached within long crossed in
+            let marked = crossed_stamps lamp rows columns dark' stamps stamps' (t + 2) head tail dark reached within long crossed in
+            record {
+              rounded =
+                  rounded_by m n j t dark end stamps stamps' so_far long_stamps sorted.from
+                  (turned_entry m n j lamp 0 n m 1 rows columns columns' stamps stamps' t head tail dark end across_sides ready standing.most long' sorted marked)
+                  (turned_none m n j lamp 0 n m 1 rows columns columns' stamps stamps' t head tail dark end across_sides ready standing.most long' sorted marked)
+                  (turned_some m n j lamp 0 n m 1 rows columns columns' stamps stamps' t head tail dark end across_sides ready standing.most long' sorted marked);
+              standing =
+                  record {
+                    most =
+                        turned_most m n j lamp 0 n m 1 rows columns columns' stamps stamps' t head tail dark end across_sides ready standing.most long' sorted marked;
+                    even = λ e. absurd (omega arith);
+                    odd =
+                        λ e.
+                        rw (long', ← last)
+                        (turned_ready m n j lamp 0 n m 1 rows columns columns' stamps stamps' t head tail dark end across_sides ready standing.most long' sorted marked);
+                  };
+            }
 
-  pub spread_back : (t % 2 ≡ 0 → ⊥) → Spreadable on cells columns rows head tail dark
-  spread_back parity =
-      spreadable _ _ _ _ _ _ _ _ _ _ _ _ _ _ _ _ columns_there (standing.odd parity) fits.table
-      (λ c r q p. omega (arith, within_grid (length rows) (length columns) r c p q, fits.cells_fit))
-
-  pub mark_across :
-      t % 2 ≡ 0 → (f : ℕ → Bool) (columns' : List ℕ) (end : ℕ) → length columns' ≡ length columns
-      → Sorted f dark columns columns' end (length columns) → (dark ≤ end) × (end ≤ length columns') × InPlaces columns' stamps
-  mark_across parity f columns' end long sorted =
-      placed _ _ _ _ _ _ _ _ _ _ _ _ _ _ _ _ rows_there (standing.even parity) f columns' end long sorted fits.wires_fit
-
-  pub mark_back :
-      (t % 2 ≡ 0 → ⊥) → (f : ℕ → Bool) (rows' : List ℕ) (end : ℕ) → length rows' ≡ length rows
-      → Sorted f dark rows rows' end (length rows) → (dark ≤ end) × (end ≤ length rows') × InPlaces rows' stamps
-  mark_back parity f rows' end long sorted =
-      placed _ _ _ _ _ _ _ _ _ _ _ _ _ _ _ _ columns_there (standing.odd parity) f rows' end long sorted (omega (arith, fits.wires_fit))
-
-  -- a stamp is a number of 16 bits
-  pub stamp_fits : t < length rows + length columns → t + 2 < 65536
-  unfolding max_rows max_columns
-  stamp_fits h = omega (arith, fits.rows_fit, fits.columns_fit)
+        -- and back
+        pub turn_back :
+            (t % 2 ≡ 0 → ⊥) → length dark' ≡ length (part rows dark (length rows))
+            → Crossed lamp (part columns head tail) (t + 2) (part rows dark (length rows)) dark' stamps stamps' reached
+            → Turned lamp rows columns stamps (crossed_list rows dark dark') columns stamps' t tail dark (dark + reached)
+        turn_back parity long crossed =
+            let m = length rows in
+            let n = length columns in
+            let ready = standing.odd parity in
+            let within = ready.others.within in
+            let j = passing lamp n in
+            let last : t + 2 ≡ t + 1 + 1 = omega arith in
+            let rows' = crossed_list rows dark dark' in
+            let end = dark + reached in
+            let long' = put_long rows dark within dark' long in
+            let sorted = crossed_sorted lamp columns rows dark' stamps stamps' (t + 2) head tail dark reached within long crossed in
+            let marked = crossed_stamps lamp columns rows dark' stamps stamps' (t + 2) head tail dark reached within long crossed in
+            record {
+              rounded =
+                  rounded_by m n j t dark end stamps stamps' so_far long_stamps sorted.from
+                  (turned_entry m n j lamp m 1 0 n columns rows rows' stamps stamps' t head tail dark end back_sides ready standing.most long' sorted marked)
+                  (turned_none m n j lamp m 1 0 n columns rows rows' stamps stamps' t head tail dark end back_sides ready standing.most long' sorted marked)
+                  (turned_some m n j lamp m 1 0 n columns rows rows' stamps stamps' t head tail dark end back_sides ready standing.most long' sorted marked);
+              standing =
+                  record {
+                    most =
+                        turned_most m n j lamp m 1 0 n columns rows rows' stamps stamps' t head tail dark end back_sides ready standing.most long' sorted marked;
+                    even =
+                        λ e.
+                        rw (long', ← last)
+                        (turned_ready m n j lamp m 1 0 n columns rows rows' stamps stamps' t head tail dark end back_sides ready standing.most long' sorted marked);
+                    odd = λ e. absurd (e (⊎_elim (λ (z : t % 2 ≡ 0). absurd (parity z)) (λ (z : t % 2 ≡ 0 → ⊥). omega (arith, not-zero (t % 2) z)) (equal_or_not (t % 2) 0)));
+                  };
+            }

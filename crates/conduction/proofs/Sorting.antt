@@ -1,22 +1,26 @@
 -- Lists whose entries are exchanged, and the parts of a round: nothing sorted yet, one entry more, the rest of a list after a part of it, and
 -- a second part after a first.
-use Prim.Native.Nat.{ℕ, ◌+◌, ◌≤◌, ◌<◌}
+use Prim.Native.Nat.{ℕ, ◌+◌, ◌-◌, ◌≤◌, ◌<◌}
 use mathlib.Core.Path.{◌≡◌, refl, sym, ap, ◌∙◌}
 use mathlib.Core.Logic.{⊎_elim}
 use mathlib.Core.Bool.{Bool, true, false, ◌||◌}
-use mathlib.Core.List.{List}
 use native.Mathlib.Omega.{arith}
-use lib.ListN.{length, get_or, set, length-set}
-use lib.Seq.{get_or-set_same, get_or-set_other}
+use mathlib.Core.List.{List, [], ◌++◌, append-nil}
+use lib.ListN.{length, get_or, take, drop, get_or-append, get_or-eq_default, drop_of_length-le, length-drop}
+use lib.Seq.{length-take-le, get_or-take}
+use borrow.Rule.Slice.PartMut.{put_mid, same_len_mid}
+use Rattle.std.proofs.lemmas.List.{get_or-drop, get_or-append-add, drop_at}
+use Rattle.std.specs.List.{SwappedAt}
 use Rattle.common.proofs.Lists.{below_or_not, equal_or_not, at_or_below, or_left, or_right}
-use Rattle.conduction.specs.Wires.{Exchanged, Sorted}
+use Rattle.conduction.specs.declared.Key.{Key}
+use Rattle.conduction.specs.Wires.{no_key, part, Exchanged, Sorted}
 
-pub exchanged_none : (first : ℕ) (l : List ℕ) → Exchanged first l l
+pub exchanged_none : (first : ℕ) (l : List Key) → Exchanged first l l
 exchanged_none first l = record { kept = λ k h. refl; forth = λ k p h. (k, p, h, refl); back = λ k p h. (k, p, h, refl) }
 
 -- one exchange after others, which may begin further on
 pub exchanged_then :
-    (first second : ℕ) (l l' l'' : List ℕ) → first ≤ second → length l' ≡ length l
+    (first second : ℕ) (l l' l'' : List Key) → first ≤ second → length l' ≡ length l
     → Exchanged first l l' → Exchanged second l' l'' → Exchanged first l l''
 exchanged_then first second l l' l'' later long a b =
     record {
@@ -42,53 +46,37 @@ exchanged_then first second l l' l'' later long a b =
     }
 
 -- two entries exchanged
-module _ (l : List ℕ) (i j : ℕ) (in-i : i < length l) (in-j : j < length l) where
-  abbrev pub exchange : List ℕ
-  exchange = set (set l i (get_or l j 0)) j (get_or l i 0)
+exchanged_two :
+    (first : ℕ) (l l' : List Key) (i j : ℕ) → i < length l → j < length l → first ≤ i → first ≤ j → SwappedAt l l' i j → Exchanged first l l'
+exchanged_two first l l' i j in-i in-j p q swapped =
+    record {
+      kept = λ k h. swapped.2 k no_key (λ (e : k ≡ i). omega arith) (λ (e : k ≡ j). omega arith);
+      forth =
+          λ k r h.
+          ⊎_elim
+          (λ (e : k ≡ i). (j, q, in-j, swapped.1 no_key ∙ ap (λ (x : ℕ). get_or l x no_key) (sym e)))
+          (λ (e : k ≡ i → ⊥).
+          ⊎_elim
+          (λ (f : k ≡ j). (i, p, in-i, swapped.0 no_key ∙ ap (λ (x : ℕ). get_or l x no_key) (sym f)))
+          (λ (f : k ≡ j → ⊥). (k, r, h, swapped.2 k no_key e f))
+          (equal_or_not k j))
+          (equal_or_not k i);
+      back =
+          λ k r h.
+          ⊎_elim
+          (λ (e : k ≡ i). (j, q, in-j, sym (ap (λ (x : ℕ). get_or l' x no_key) e ∙ swapped.0 no_key)))
+          (λ (e : k ≡ i → ⊥).
+          ⊎_elim
+          (λ (f : k ≡ j). (i, p, in-i, sym (ap (λ (x : ℕ). get_or l' x no_key) f ∙ swapped.1 no_key)))
+          (λ (f : k ≡ j → ⊥). (k, r, h, sym (swapped.2 k no_key e f)))
+          (equal_or_not k j))
+          (equal_or_not k i);
+    }
 
-  pub exchange_second : get_or exchange j 0 ≡ get_or l i 0
-  exchange_second = get_or-set_same (set l i (get_or l j 0)) j (get_or l i 0) 0 (simp length-set in-j)
-
-  pub exchange_other : (k : ℕ) → (k ≡ i → ⊥) → (k ≡ j → ⊥) → get_or exchange k 0 ≡ get_or l k 0
-  exchange_other k p q = get_or-set_other (set l i (get_or l j 0)) j k (get_or l i 0) 0 q ∙ get_or-set_other l i k (get_or l j 0) 0 p
-
-  pub exchange_first : get_or exchange i 0 ≡ get_or l j 0
-  exchange_first =
-      ⊎_elim
-      (λ (e : i ≡ j). ap (λ (k : ℕ). get_or exchange k 0) e ∙ exchange_second ∙ ap (λ (k : ℕ). get_or l k 0) e)
-      (λ (e : i ≡ j → ⊥). get_or-set_other (set l i (get_or l j 0)) j i (get_or l i 0) 0 e ∙ get_or-set_same l i (get_or l j 0) 0 in-i)
-      (equal_or_not i j)
-
-  pub exchanged_two : (first : ℕ) → first ≤ i → first ≤ j → Exchanged first l exchange
-  exchanged_two first p q =
-      record {
-        kept = λ k h. exchange_other k (λ (e : k ≡ i). omega arith) (λ (e : k ≡ j). omega arith);
-        forth =
-            λ k r h.
-            ⊎_elim
-            (λ (e : k ≡ i). (j, q, in-j, exchange_second ∙ ap (λ (x : ℕ). get_or l x 0) (sym e)))
-            (λ (e : k ≡ i → ⊥).
-            ⊎_elim
-            (λ (f : k ≡ j). (i, p, in-i, exchange_first ∙ ap (λ (x : ℕ). get_or l x 0) (sym f)))
-            (λ (f : k ≡ j → ⊥). (k, r, h, exchange_other k e f))
-            (equal_or_not k j))
-            (equal_or_not k i);
-        back =
-            λ k r h.
-            ⊎_elim
-            (λ (e : k ≡ i). (j, q, in-j, sym (ap (λ (x : ℕ). get_or exchange x 0) e ∙ exchange_first)))
-            (λ (e : k ≡ i → ⊥).
-            ⊎_elim
-            (λ (f : k ≡ j). (i, p, in-i, sym (ap (λ (x : ℕ). get_or exchange x 0) f ∙ exchange_second)))
-            (λ (f : k ≡ j → ⊥). (k, r, h, sym (exchange_other k e f)))
-            (equal_or_not k j))
-            (equal_or_not k i);
-      }
-
-module _ (f : ℕ → Bool) (first : ℕ) where
+module _ (f : Key → Bool) (first : ℕ) where
   -- nothing moved, where none is named
   pub sorted_none :
-      (l : List ℕ) (past : ℕ) → first ≤ past → ((k : ℕ) → first ≤ k → k < past → f (get_or l k 0) ≡ false) → Sorted f first l l first past
+      (l : List Key) (past : ℕ) → first ≤ past → ((k : ℕ) → first ≤ k → k < past → f (get_or l k no_key) ≡ false) → Sorted f first l l first past
   sorted_none l past h none =
       record {
         exchanged = exchanged_none first l;
@@ -99,9 +87,9 @@ module _ (f : ℕ → Bool) (first : ℕ) where
         rest = λ k p. refl;
       }
 
-  module _ (l l' : List ℕ) (lit i : ℕ) (sorted : Sorted f first l l' lit i) where
+  module _ (l l' : List Key) (lit i : ℕ) (sorted : Sorted f first l l' lit i) where
     -- entries more that are not named
-    pub sorted_pass : (past : ℕ) → i ≤ past → ((k : ℕ) → i ≤ k → k < past → f (get_or l' k 0) ≡ false) → Sorted f first l l' lit past
+    pub sorted_pass : (past : ℕ) → i ≤ past → ((k : ℕ) → i ≤ k → k < past → f (get_or l' k no_key) ≡ false) → Sorted f first l l' lit past
     sorted_pass past h none =
         record {
           exchanged = sorted.exchanged;
@@ -114,44 +102,39 @@ module _ (f : ℕ → Bool) (first : ℕ) where
 
     -- an entry more that is named takes the place of the first that is not
     pub sorted_name :
-        length l' ≡ length l → i < length l → f (get_or l' i 0) ≡ true
-        → Sorted f first l (set (set l' i (get_or l' lit 0)) lit (get_or l' i 0)) (lit + 1) (i + 1)
-    sorted_name long h e =
+        (l'' : List Key) → length l' ≡ length l → i < length l → f (get_or l' i no_key) ≡ true → SwappedAt l' l'' lit i
+        → Sorted f first l l'' (lit + 1) (i + 1)
+    sorted_name l'' long h e swapped =
         let within : i < length l' = omega arith in
         let lit-in : lit < length l' = omega (arith, sorted.upto) in
         record {
           exchanged =
-              exchanged_then first first l l' (exchange l' i lit within lit-in) (omega arith) long sorted.exchanged
-              (exchanged_two l' i lit within lit-in first (omega (arith, sorted.from, sorted.upto)) sorted.from);
+              exchanged_then first first l l' l'' (omega arith) long sorted.exchanged
+              (exchanged_two first l' l'' lit i lit-in within sorted.from (omega (arith, sorted.from, sorted.upto)) swapped);
           from = omega (arith, sorted.from);
           upto = omega (arith, sorted.upto);
           named =
               λ k p q.
               ⊎_elim
-              (λ (r : k ≡ lit). rw (r, exchange_second l' i lit within lit-in) e)
+              (λ (r : k ≡ lit). rw (r, swapped.0 no_key) e)
               (λ (r : k < lit).
-              rw
-              (exchange_other l' i lit within lit-in k (λ (z : k ≡ i). omega (arith, sorted.upto)) (λ (z : k ≡ lit). omega arith))
-              (sorted.named k p r))
+              rw (swapped.2 k no_key (λ (z : k ≡ lit). omega arith) (λ (z : k ≡ i). omega (arith, sorted.upto))) (sorted.named k p r))
               (at_or_below k lit (omega arith));
           others =
               λ k p q.
               ⊎_elim
-              (λ (r : k ≡ i). rw (r, exchange_first l' i lit within lit-in) (sorted.others lit (omega arith) (omega arith)))
+              (λ (r : k ≡ i). rw (r, swapped.1 no_key) (sorted.others lit (omega arith) (omega arith)))
               (λ (r : k < i).
-              rw
-              (exchange_other l' i lit within lit-in k (λ (z : k ≡ i). omega arith) (λ (z : k ≡ lit). omega arith))
-              (sorted.others k (omega arith) r))
+              rw (swapped.2 k no_key (λ (z : k ≡ lit). omega arith) (λ (z : k ≡ i). omega arith)) (sorted.others k (omega arith) r))
               (at_or_below k i (omega arith));
           rest =
               λ k p.
-              exchange_other l' i lit within lit-in k (λ (z : k ≡ i). omega arith) (λ (z : k ≡ lit). omega (arith, sorted.upto))
-              ∙ sorted.rest k (omega arith);
+              swapped.2 k no_key (λ (z : k ≡ lit). omega (arith, sorted.upto)) (λ (z : k ≡ i). omega arith) ∙ sorted.rest k (omega arith);
         }
 
     -- the same part, gone on with
     pub sorted_on :
-        (l'' : List ℕ) (lit' past : ℕ) → length l' ≡ length l → i ≤ past → Sorted f lit l' l'' lit' past → Sorted f first l l'' lit' past
+        (l'' : List Key) (lit' past : ℕ) → length l' ≡ length l → i ≤ past → Sorted f lit l' l'' lit' past → Sorted f first l l'' lit' past
     sorted_on l'' lit' past long later more =
         record {
           exchanged = exchanged_then first lit l l' l'' sorted.from long sorted.exchanged more.exchanged;
@@ -169,7 +152,7 @@ module _ (f : ℕ → Bool) (first : ℕ) where
 
 -- a part after a part, over the whole of a list
 pub sorted_both :
-    (f g : ℕ → Bool) (first : ℕ) (l l' l'' : List ℕ) (lit lit' : ℕ) → length l' ≡ length l
+    (f g : Key → Bool) (first : ℕ) (l l' l'' : List Key) (lit lit' : ℕ) → length l' ≡ length l
     → Sorted f first l l' lit (length l) → Sorted g lit l' l'' lit' (length l) → Sorted (λ w. g w || f w) first l l'' lit' (length l)
 sorted_both f g first l l' l'' lit lit' long a b =
     record {
@@ -180,8 +163,8 @@ sorted_both f g first l l' l'' lit lit' long a b =
           λ k p q.
           ⊎_elim
           (λ (r : k < lit).
-          or_right (g (get_or l'' k 0)) (f (get_or l'' k 0)) (rw (b.exchanged.kept k r) (a.named k p r)))
-          (λ (r : lit ≤ k). or_left (g (get_or l'' k 0)) (f (get_or l'' k 0)) (b.named k r q))
+          or_right (g (get_or l'' k no_key)) (f (get_or l'' k no_key)) (rw (b.exchanged.kept k r) (a.named k p r)))
+          (λ (r : lit ≤ k). or_left (g (get_or l'' k no_key)) (f (get_or l'' k no_key)) (b.named k r q))
           (below_or_not k lit);
       others =
           λ k p q.
@@ -192,24 +175,94 @@ sorted_both f g first l l' l'' lit lit' long a b =
 
 -- the same entries, named otherwise
 pub sorted_as :
-    (f g : ℕ → Bool) (first : ℕ) (l l' : List ℕ) (lit past : ℕ) → ((w : ℕ) → f w ≡ g w)
+    (f g : Key → Bool) (first : ℕ) (l l' : List Key) (lit past : ℕ) → ((w : Key) → f w ≡ g w)
     → Sorted f first l l' lit past → Sorted g first l l' lit past
 sorted_as f g first l l' lit past same s =
     record {
       exchanged = s.exchanged;
       from = s.from;
       upto = s.upto;
-      named = λ k p q. sym (same (get_or l' k 0)) ∙ s.named k p q;
-      others = λ k p q. sym (same (get_or l' k 0)) ∙ s.others k p q;
+      named = λ k p q. sym (same (get_or l' k no_key)) ∙ s.named k p q;
+      others = λ k p q. sym (same (get_or l' k no_key)) ∙ s.others k p q;
       rest = s.rest;
     }
 
 -- what holds of each entry holds of each after an exchange
 pub exchanged_all :
-    (Q : ℕ → Type 0) (first : ℕ) (l l' : List ℕ) → Exchanged first l l'
-    → ((k : ℕ) → k < length l → Q (get_or l k 0)) → (k : ℕ) → k < length l → Q (get_or l' k 0)
+    (Q : Key → Type 0) (first : ℕ) (l l' : List Key) → Exchanged first l l'
+    → ((k : ℕ) → k < length l → Q (get_or l k no_key)) → (k : ℕ) → k < length l → Q (get_or l' k no_key)
 exchanged_all Q first l l' e all k h =
     ⊎_elim
     (λ (p : k < first). rw (e.kept k p) (all k h))
     (λ (p : first ≤ k). let was = e.back k p h in rw (← was.3) (all was.0 was.2))
     (below_or_not k first)
+
+-- a part of a list: its length and its entries
+pub part_long : {A : Type 0} (l : List A) (from to : ℕ) → to ≤ length l → length (part l from to) ≡ to - from
+part_long {A} l from to h = length-take-le {A = A} (to - from) (drop from l) (rw length-drop (omega arith))
+
+pub part_entry : {A : Type 0} (l : List A) (from to k : ℕ) (d : A) → k < to - from → get_or (part l from to) k d ≡ get_or l (from + k) d
+part_entry {A} l from to k d h = get_or-take {A = A} (to - from) (drop from l) k d h ∙ get_or-drop from l k d
+
+-- the rest of a list from a place on, and the list after another rest was put there
+module _ (l : List Key) (d : ℕ) (within : d ≤ length l) where
+  pub rest_long : length (part l d (length l)) ≡ length l - d
+  rest_long = part_long l d (length l) (omega arith)
+
+  pub rest_entry : (k : ℕ) → get_or (part l d (length l)) k no_key ≡ get_or l (d + k) no_key
+  rest_entry k =
+      ⊎_elim
+      (λ (h : k < length l - d). part_entry l d (length l) k no_key h)
+      (λ (h : length l - d ≤ k).
+      get_or-eq_default (part l d (length l)) no_key (omega (arith, rest_long))
+      ∙ sym (get_or-eq_default l no_key {n = d + k} (omega arith)))
+      (below_or_not k (length l - d))
+
+  module _ (t : List Key) (long : length t ≡ length (part l d (length l))) where
+    pub put_long : length (put_mid d (length l - d) l t) ≡ length l
+    put_long = same_len_mid d (length l - d) l t long
+
+    put_below : (k : ℕ) → k < d → get_or (put_mid d (length l - d) l t) k no_key ≡ get_or l k no_key
+    put_below k h =
+        get_or-append (take d l) (t ++ drop (length l - d) (drop d l)) no_key k (rw (length-take-le d l within) h) ∙ get_or-take d l k no_key h
+
+    put_entry : (k : ℕ) → get_or (put_mid d (length l - d) l t) (d + k) no_key ≡ get_or t k no_key
+    put_entry k =
+        let past : drop (length l - d) (drop d l) ≡ [] = drop_of_length-le (drop d l) {i = length l - d} (rw length-drop (omega arith)) in
+        let whole : put_mid d (length l - d) l t ≡ take d l ++ t = rw (past, append-nil t) in
+        rw whole (rw (length-take-le d l within) at (get_or-append-add (take d l) t k no_key))
+
+    pub put_part : (n : ℕ) → part (put_mid d (length l - d) l t) d (d + n) ≡ take n t
+    put_part n =
+        let past : drop (length l - d) (drop d l) ≡ [] = drop_of_length-le (drop d l) {i = length l - d} (rw length-drop (omega arith)) in
+        let count : d + n - d ≡ n = omega arith in
+        rw (count, past, append-nil t, drop_at (take d l) t d (length-take-le d l within))
+
+    -- what was sorted of the rest
+    pub sorted_rest :
+        (f : Key → Bool) (n : ℕ) → Sorted f 0 (part l d (length l)) t n (length (part l d (length l)))
+        → Sorted f d l (put_mid d (length l - d) l t) (d + n) (length l)
+    sorted_rest f n s =
+        let after : (k : ℕ) → d ≤ k → get_or (put_mid d (length l - d) l t) k no_key ≡ get_or t (k - d) no_key =
+        λ k h. let at : d + (k - d) ≡ k = omega arith in rw at at (put_entry (k - d)) in
+        let before : (k : ℕ) → d ≤ k → get_or (part l d (length l)) (k - d) no_key ≡ get_or l k no_key =
+        λ k h. let at : d + (k - d) ≡ k = omega arith in rw at at (rest_entry (k - d)) in
+        record {
+          exchanged =
+              record {
+                kept = put_below;
+                forth =
+                    λ k p h.
+                    let there = s.exchanged.forth (k - d) (omega arith) (omega (arith, rest_long)) in
+                    (d + there.0, omega arith, omega (arith, there.2, rest_long), put_entry there.0 ∙ there.3 ∙ before k p);
+                back =
+                    λ k p h.
+                    let there = s.exchanged.back (k - d) (omega arith) (omega (arith, rest_long)) in
+                    (d + there.0, omega arith, omega (arith, there.2, rest_long), sym (rest_entry there.0) ∙ there.3 ∙ sym (after k p));
+              };
+          from = omega arith;
+          upto = omega (arith, s.upto, rest_long);
+          named = λ k p q. rw (after k p) (s.named (k - d) (omega arith) (omega arith));
+          others = λ k p q. rw (after k (omega arith)) (s.others (k - d) (omega arith) (omega (arith, rest_long)));
+          rest = λ k p. after k (omega arith) ∙ s.rest (k - d) (omega (arith, rest_long)) ∙ before k (omega arith);
+        }

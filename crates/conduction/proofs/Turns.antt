@@ -3,25 +3,19 @@
 use Prim.Native.Nat.{ℕ, ◌+◌, ◌-◌, ◌*◌, ◌≤◌, ◌<◌}
 use mathlib.Core.Path.{◌≡◌, refl, sym, ap, ◌∙◌}
 use mathlib.Core.Logic.{◌⊎◌, inl, inr, ⊎_elim}
-use mathlib.Core.Bool.{Bool, true, false, ◌&&◌}
+use mathlib.Core.Bool.{Bool, true, false}
 use mathlib.Core.List.{List}
 use native.Mathlib.Omega.{arith}
 use lib.ListN.{length, get_or}
-use lib.Dec.{eqb, leb}
-use borrow.Author.Tests.{le-leb, leb-true, eqb-true, eq-eqb}
-use Rattle.common.proofs.Lists.{and_left, and_right, and_both, both_ways, by_test, true_or_false, below_or_not, some_below_at, some_below_is}
-use Rattle.conduction.specs.Wires.{unit, place_of, adds_of, wire_of, passes, joined_to, Sorted, among, NewlyStamped, Sided, Fronted, TurnReady}
+use lib.Dec.{eqb}
+use borrow.Author.Tests.{eqb-true, eq-eqb}
+use Rattle.common.proofs.Lists.{both_ways, by_test, true_or_false, below_or_not}
+use Rattle.conduction.specs.declared.Key.{Key}
+use Rattle.conduction.specs.declared.Lamp.{Lamp}
+use Rattle.conduction.specs.Wires.{no_key, part, wire_of, passes, joined_to, Sorted, among, NewlyStamped, Sided, Fronted, TurnReady}
 use Rattle.conduction.proofs.Stamps.{meets, stamp, reached, stamp_kept, stamp_new, stamp_out, stamp_cases, reached_by, reached_is}
 use Rattle.conduction.proofs.Sorting.{exchanged_all}
-
--- the two parts of a wire's key
-pub place_wire : (first step x : ℕ) → x * step < unit → place_of (wire_of first step x) ≡ first + x
-unfolding place_of wire_of unit
-place_wire first step x h = omega arith
-
-pub adds_wire : (first step x : ℕ) → x * step < unit → adds_of (wire_of first step x) ≡ x * step
-unfolding adds_of wire_of unit
-adds_wire first step x h = omega arith
+use Rattle.conduction.proofs.Parts.{any_part, any_part_is}
 
 -- whether a number is one of those of a side
 number_in : (first size v : ℕ) → ((y : ℕ) × (y < size) × (v ≡ first + y)) ⊎ ((y : ℕ) → y < size → v ≡ first + y → ⊥)
@@ -36,35 +30,34 @@ number_in first size v =
     (below_or_not v first)
 
 -- which wires meet: one of the side that the round comes from and one of the other side, in the cell at the sum of what they add
-pub record Sides (m n : ℕ) (joined : ℕ → ℕ → Bool) (on cells : List ℕ) (first step size first' step' size' : ℕ) : Type 0 where
+pub record Sides (m n : ℕ) (joined : ℕ → ℕ → Bool) (lamp : Lamp) (first step size first' step' size' : ℕ) : Type 0 where
   pub across :
-      (x y : ℕ) → x < size → y < size' → meets m n joined (first + x) (first' + y) ≡ passes on cells (x * step + y * step')
+      (x y : ℕ) → x < size → y < size' → meets m n joined (first + x) (first' + y) ≡ passes lamp (x * step + y * step')
   pub ends :
       (u v : ℕ) → meets m n joined u v ≡ true
       → (((x : ℕ) × (x < size) × (u ≡ first + x)) × ((y : ℕ) × (y < size') × (v ≡ first' + y))) ⊎ ((y : ℕ) × (y < size') × (u ≡ first' + y))
   pub apart : (x y : ℕ) → x < size → y < size' → first + x ≡ first' + y → ⊥
-  pub small : (x : ℕ) → x < size → x * step < unit
-  pub small' : (y : ℕ) → y < size' → y * step' < unit
 
 module _
     (m n : ℕ)
     (joined : ℕ → ℕ → Bool)
-    (on cells : List ℕ)
+    (lamp : Lamp)
     (first step first' step' : ℕ)
-    (from to to' stamps stamps' : List ℕ)
+    (from to to' : List Key)
+    (stamps stamps' : List ℕ)
     (t head tail dark end : ℕ)
-    (sides : Sides m n joined on cells first step (length from) first' step' (length to))
+    (sides : Sides m n joined lamp first step (length from) first' step' (length to))
     (ready : TurnReady first step first' step' from to stamps (t + 1) head tail dark)
     (most : (v : ℕ) → get_or stamps v 0 ≤ t + 1)
     (long : length to' ≡ length to)
-    (sorted : Sorted (joined_to on cells from head tail) dark to to' end (length to))
-    (marked : NewlyStamped to' dark end (t + 2) stamps stamps')
+    (sorted : Sorted (joined_to lamp (part from head tail)) dark to to' end (length to))
+    (marked : NewlyStamped (part to' dark end) (t + 2) stamps stamps')
   where
     -- a wire is reached just where it is joined to a wire of the front
-    reached_joined : (y : ℕ) → y < length to → reached m n joined t stamps (first' + y) ≡ joined_to on cells from head tail (wire_of first' step' y)
+    reached_joined : (y : ℕ) → y < length to → reached m n joined t stamps (first' + y) ≡ joined_to lamp (part from head tail) (wire_of first' step' y)
     unfolding joined_to
     reached_joined y h =
-        both_ways (reached m n joined t stamps (first' + y)) (joined_to on cells from head tail (wire_of first' step' y))
+        both_ways (reached m n joined t stamps (first' + y)) (joined_to lamp (part from head tail) (wire_of first' step' y))
         (λ e.
         let found = reached_is m n joined t stamps (first' + y) e in
         ⊎_elim
@@ -72,30 +65,21 @@ module _
         let x = p.0.0 in
         let at : found.0 ≡ first + x = p.0.2 in
         let stood = ready.front.all x p.0.1 (rw (← at) found.2) in
-        let adds = ap adds_of stood.3 ∙ adds_wire first step x (sides.small x p.0.1) in
-        let passed : passes on cells (x * step + y * step') ≡ true = sym (sides.across x y p.0.1 h) ∙ rw (← at) found.1 in
-        some_below_at tail (λ k. leb head k && passes on cells (adds_of (get_or from k 0) + adds_of (wire_of first' step' y))) stood.0 stood.2
-        (and_both (leb head stood.0) (passes on cells (adds_of (get_or from stood.0 0) + adds_of (wire_of first' step' y)))
-        (le-leb head stood.0 stood.1)
-        (rw (adds, adds_wire first' step' y (sides.small' y h)) passed)))
+        let adds = ap (λ (k : Key). k.adds) stood.3 in
+        let passed : passes lamp (x * step + y * step') ≡ true = sym (sides.across x y p.0.1 h) ∙ rw (← at) found.1 in
+        any_part (λ k. passes lamp (k.adds + y * step')) from no_key head tail stood.0 stood.1 stood.2 ready.front.within (rw adds passed))
         (λ (p : (z : ℕ) × (z < length to) × (found.0 ≡ first' + z)).
         absurd (ready.apart p.0 p.1 (rw (← p.2) found.2)))
         (sides.ends found.0 (first' + y) found.1))
         (λ e.
-        let found = some_below_is tail (λ k. leb head k && passes on cells (adds_of (get_or from k 0) + adds_of (wire_of first' step' y))) e in
+        let found = any_part_is (λ k. passes lamp (k.adds + y * step')) from no_key head tail ready.front.within e in
         let k = found.0 in
-        let meeting = passes on cells (adds_of (get_or from k 0) + adds_of (wire_of first' step' y)) in
-        let after-head = leb-true head k (and_left (leb head k) meeting found.2) in
-        let wire = ready.lit.each k (omega (arith, found.1, ready.front.within)) in
+        let wire = ready.lit.each k (omega (arith, found.2, ready.front.within)) in
         let x = wire.0 in
-        let adds = ap adds_of wire.2 ∙ adds_wire first step x (sides.small x wire.1) in
-        let place = ap place_of wire.2 ∙ place_wire first step x (sides.small x wire.1) in
-        let adds' = adds_wire first' step' y (sides.small' y h) in
-        let sum : adds_of (get_or from k 0) + adds_of (wire_of first' step' y) ≡ x * step + y * step' = omega arith in
-        let passed : passes on cells (x * step + y * step') ≡ true =
-        sym (ap (passes on cells) sum) ∙ and_right (leb head k) meeting found.2 in
+        let place = ap (λ (k : Key). k.place) wire.2 in
+        let passed : passes lamp (x * step + y * step') ≡ true = rw (ap (λ (k : Key). k.adds) wire.2) at found.3 in
         reached_by m n joined t stamps (first + x) (first' + y) (sides.across x y wire.1 h ∙ passed)
-        (rw place at (ready.front.stamped k after-head found.1)))
+        (rw place at (ready.front.stamped k found.1 found.2)))
 
     -- no wire of the side that the round comes from is reached, nor any place past the wires
     reached_no : (v : ℕ) → ((y : ℕ) → y < length to → v ≡ first' + y → ⊥) → reached m n joined t stamps v ≡ false
@@ -114,54 +98,46 @@ module _
     -- an entry of the list from `dark` on: it is a dark wire
     entry_dark :
         (k : ℕ) → dark ≤ k → k < length to
-        → (y : ℕ) × (y < length to) × (get_or to' k 0 ≡ wire_of first' step' y) × (place_of (get_or to' k 0) ≡ first' + y) × (get_or stamps (first' + y) 0 ≡ 0)
+        → (y : ℕ) × (y < length to) × (get_or to' k no_key ≡ wire_of first' step' y) × ((get_or to' k no_key).place ≡ first' + y) × (get_or stamps (first' + y) 0 ≡ 0)
     entry_dark k p q =
         let was = sorted.exchanged.back k p q in
         let wire = ready.others.each was.0 was.2 in
         let y = wire.0 in
-        let is : get_or to' k 0 ≡ wire_of first' step' y = sym was.3 ∙ wire.2 in
-        let place = place_wire first' step' y (sides.small' y wire.1) in
+        let is : get_or to' k no_key ≡ wire_of first' step' y = sym was.3 ∙ wire.2 in
         let dark-there = ready.others.darks was.0 was.1 was.2 in
-        (y, wire.1, is, ap place_of is ∙ place, rw (wire.2, place) at dark-there)
+        (y, wire.1, is, ap (λ (k : Key). k.place) is, rw wire.2 at dark-there)
 
     -- a dark wire stands in the list from `dark` on
-    dark_entry : (y : ℕ) → y < length to → get_or stamps (first' + y) 0 ≡ 0 → (k : ℕ) × (dark ≤ k) × (k < length to) × (get_or to' k 0 ≡ wire_of first' step' y)
+    dark_entry : (y : ℕ) → y < length to → get_or stamps (first' + y) 0 ≡ 0 → (k : ℕ) × (dark ≤ k) × (k < length to) × (get_or to' k no_key ≡ wire_of first' step' y)
     dark_entry y h z =
         let was = ready.others.all y h z in
         let now = sorted.exchanged.forth was.0 was.1 was.2 in
         (now.0, now.1, now.2, now.3 ∙ was.3)
 
     -- the wires that get the new stamp are those of the list from `dark` up to `end`
-    among_is : (v : ℕ) → among to' dark end v ≡ true → (k : ℕ) × (dark ≤ k) × (k < end) × (place_of (get_or to' k 0) ≡ v)
+    among_is : (v : ℕ) → among (part to' dark end) v ≡ true → (k : ℕ) × (dark ≤ k) × (k < end) × ((get_or to' k no_key).place ≡ v)
     unfolding among
     among_is v e =
-        let found = some_below_is end (λ k. leb dark k && eqb (place_of (get_or to' k 0)) v) e in
-        let k = found.0 in
-        let here = eqb (place_of (get_or to' k 0)) v in (
-          k,
-          leb-true dark k (and_left (leb dark k) here found.2),
-          found.1,
-          eqb-true (place_of (get_or to' k 0)) v (and_right (leb dark k) here found.2),
-        )
+        let found = any_part_is (λ k. eqb k.place v) to' no_key dark end (omega (arith, sorted.upto)) e in
+        (found.0, found.1, found.2, eqb-true (get_or to' found.0 no_key).place v found.3)
 
-    is_among : (k : ℕ) → dark ≤ k → k < end → among to' dark end (place_of (get_or to' k 0)) ≡ true
+    is_among : (k : ℕ) → dark ≤ k → k < end → among (part to' dark end) (get_or to' k no_key).place ≡ true
     unfolding among
     is_among k p q =
-        let v = place_of (get_or to' k 0) in
-        some_below_at end (λ j. leb dark j && eqb (place_of (get_or to' j 0)) v) k q
-        (and_both (leb dark k) (eqb v v) (le-leb dark k p) (eq-eqb v v refl))
+        let v = (get_or to' k no_key).place in
+        any_part (λ k. eqb k.place v) to' no_key dark end k p q (omega (arith, sorted.upto)) (eq-eqb v v refl)
 
-    new_stamp : (v : ℕ) → among to' dark end v ≡ true → get_or stamps' v 0 ≡ t + 2
+    new_stamp : (v : ℕ) → among (part to' dark end) v ≡ true → get_or stamps' v 0 ≡ t + 2
     new_stamp v e = marked.stamps v ∙ rw e
 
-    old_stamp : (v : ℕ) → among to' dark end v ≡ false → get_or stamps' v 0 ≡ get_or stamps v 0
+    old_stamp : (v : ℕ) → among (part to' dark end) v ≡ false → get_or stamps' v 0 ≡ get_or stamps v 0
     old_stamp v e = marked.stamps v ∙ rw e
 
     -- the stamps after the round
     pub turned_entry : (v : ℕ) → get_or stamps' v 0 ≡ stamp (t + 2) (reached m n joined t stamps v) (get_or stamps v 0)
     turned_entry v =
         ⊎_elim
-        (λ (e : among to' dark end v ≡ true).
+        (λ (e : among (part to' dark end) v ≡ true).
         let at = among_is v e in
         let wire = entry_dark at.0 at.1 (omega (arith, at.2, sorted.upto)) in
         let is : v ≡ first' + wire.0 = sym at.3 ∙ wire.3 in
@@ -170,7 +146,7 @@ module _
         ∙ sym
         (stamp_new (t + 2) (reached m n joined t stamps v) (get_or stamps v 0) (rw is wire.4)
         (rw is (reached_joined wire.0 wire.1 ∙ joined_to))))
-        (λ (e : among to' dark end v ≡ false).
+        (λ (e : among (part to' dark end) v ≡ false).
         old_stamp v e
         ∙ sym
         (⊎_elim
@@ -184,15 +160,15 @@ module _
         let at = dark_entry y p.1 zero-stamp in
         ⊎_elim
         (λ (q : at.0 < end).
-        let place = ap place_of at.3 ∙ place_wire first' step' y (sides.small' y p.1) ∙ sym p.2 in
-        absurd (true_or_false (among to' dark end v) (rw place at (is_among at.0 at.1 q)) e))
+        let place = ap (λ (k : Key). k.place) at.3 ∙ sym p.2 in
+        absurd (true_or_false (among (part to' dark end) v) (rw place at (is_among at.0 at.1 q)) e))
         (λ (q : end ≤ at.0). rw p.2 (reached_joined y p.1 ∙ rw at.3 at (sorted.others at.0 q at.2)))
         (below_or_not at.0 end))
         (λ p. reached_no v p)
         (number_in first' (length to) v) in
         rw unreached (stamp_out (t + 2) (get_or stamps v 0)))
         (below_or_not 0 (get_or stamps v 0))))
-        (by_test (among to' dark end v))
+        (by_test (among (part to' dark end) v))
 
     -- a wire gets the new stamp just where it was dark and is reached
     new_is : (v : ℕ) → get_or stamps' v 0 ≡ t + 2 → (get_or stamps v 0 ≡ 0) × (reached m n joined t stamps v ≡ true)
@@ -238,7 +214,7 @@ module _
         record {
           order = sorted.from;
           within = omega (arith, sorted.upto);
-          stamped = λ k p q. new_stamp (place_of (get_or to' k 0)) (is_among k p q);
+          stamped = λ k p q. new_stamp (get_or to' k no_key).place (is_among k p q);
           all =
               λ y h e.
               let below : y < length to = omega arith in
@@ -248,7 +224,7 @@ module _
               (λ (q : at.0 < end). (at.0, at.1, q, at.3))
               (λ (q : end ≤ at.0).
               absurd
-              (true_or_false (joined_to on cells from head tail (wire_of first' step' y)) (sym (reached_joined y below) ∙ new.1)
+              (true_or_false (joined_to lamp (part from head tail) (wire_of first' step' y)) (sym (reached_joined y below) ∙ new.1)
               (rw at.3 at (sorted.others at.0 q at.2))))
               (below_or_not at.0 end);
         }
@@ -275,7 +251,7 @@ module _
               ⊎_elim
               (λ (q : at.0 < end).
               absurd
-              (true_or_false (joined_to on cells from head tail (wire_of first' step' y))
+              (true_or_false (joined_to lamp (part from head tail) (wire_of first' step' y))
               (rw at.3 at (sorted.named at.0 at.1 q))
               (sym (reached_joined y below) ∙ old.1)))
               (λ (q : end ≤ at.0). (at.0, q, omega (arith, at.2), at.3))
@@ -290,7 +266,7 @@ module _
           darks =
               λ k p q.
               let wire = ready.lit.each k q in
-              let place = ap place_of wire.2 ∙ place_wire first step wire.0 (sides.small wire.0 wire.1) in
+              let place = ap (λ (k : Key). k.place) wire.2 in
               rw place (from_same wire.0 wire.1 ∙ rw place at (ready.lit.darks k p q));
           all = λ x h e. ready.lit.all x h (sym (from_same x h) ∙ e);
         }
@@ -308,9 +284,9 @@ module _
     pub turned_none : end ≡ dark → (v : ℕ) → get_or stamps' v 0 ≡ get_or stamps v 0
     turned_none e v =
         ⊎_elim
-        (λ (a : among to' dark end v ≡ true). let at = among_is v a in absurd (omega (arith, at.1, at.2)))
-        (λ (a : among to' dark end v ≡ false). old_stamp v a)
-        (by_test (among to' dark end v))
+        (λ (a : among (part to' dark end) v ≡ true). let at = among_is v a in absurd (omega (arith, at.1, at.2)))
+        (λ (a : among (part to' dark end) v ≡ false). old_stamp v a)
+        (by_test (among (part to' dark end) v))
 
     pub turned_some : dark < end → (v : ℕ) × (get_or stamps v 0 ≡ 0) × (get_or stamps' v 0 ≡ t + 2)
     turned_some h =

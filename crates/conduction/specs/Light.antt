@@ -1,12 +1,11 @@
 -- Light's answer. Document 01, "The services": "crossbar and setting in; the lit wires and the rounds out." Document 02, Req 01: "Light
 -- gives for each wire, in place of its byte, a 16-bit number .. : 0 if dark, otherwise 1 plus the round in which it was first lit".
 use Rattle.std.specs.Prelude.{ℕ, ◌+◌, ◌-◌, Bool, not, List, [], ◌∷◌, ltb}
-use Rattle.common.specs.Outcome.{Outcome, done, ◌when◌, lowest, unless, refusal_of, value_of}
+use Rattle.common.specs.Outcome.{Outcome, done, ◌when◌, lowest, unless}
 use Rattle.cells.specs.declared.Crossbar.{Crossbar}
 use Rattle.cells.specs.Conducts.{joins}
 use Rattle.cells.specs.Record.{sound}
 use Rattle.cells.specs.Setting.{is_setting}
-use Rattle.conduction.specs.declared.Lighted.{Lighted}
 use Rattle.conduction.specs.Round.{round_count, at_rest, first_rounds}
 
 -- the count of rounds, and each wire's first round
@@ -40,7 +39,3 @@ light x cells setting room =
     ∷ []))
     0
     (done (lit_by x cells setting))
-
--- the answer as the call hands it over; with the first rounds it is what light promises, by `Answered`
-unfoldable pub lighted : Outcome Lit → Lighted
-lighted o = record { refusal = refusal_of o; rounds = value_of 0 (λ a. a.count) o }

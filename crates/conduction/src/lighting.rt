@@ -1,92 +1,58 @@
 // Light: the rounds of a crossbar under a setting, and the first round of every wire.
-ghost use Rattle.std.specs.Prelude.{◌≡◌, true, ◌≤◌, length};
-ghost use Rattle.common.specs.Limits.{max_switches};
-ghost use Rattle.common.specs.Lists.{bit, zeros};
-ghost use Rattle.common.specs.Outcome.{refused, Answered};
+ghost use Rattle.std.specs.Prelude.{◌≡◌, length, Err};
+ghost use Rattle.common.specs.Fault.{handed};
+ghost use Rattle.common.specs.Lists.{zeros};
+ghost use Rattle.common.specs.Outcome.{Answered};
 ghost use Rattle.cells.specs.Conducts.{joins};
-ghost use Rattle.cells.specs.Setting.{is_setting};
-ghost use Rattle.conduction.specs.Stamps.{Counted};
-ghost use Rattle.conduction.specs.Light.{light, lighted};
-ghost use Rattle.conduction.specs.Wires.{on_codes, LampReady};
+ghost use Rattle.conduction.specs.Stamps.{Settled};
+ghost use Rattle.conduction.specs.Light.{light};
+ghost use Rattle.conduction.specs.Wires.{LampReady};
 
-use crate::Lighted;
-use crate::spreading::CODES;
+use crate::Lamp;
+use crate::spreading::conducting;
 use crate::stamping::rounds;
+use cells::Crossbar;
 use cells::checks::{is_setting, is_sound};
-use cells::{Crossbar, conducts_code};
-use common::{MAX_COLUMNS, MAX_ROWS, Refusal, clear_numbers};
-
-// A truth value as a byte.
-fn byte_of(holds: bool) -> u8
-    ensures { result ≡ bit holds }
-{
-    if holds { 1 } else { 0 }
-}
-
-// Which codes conduct under a setting: 1 or 0 for each code of its switches.
-fn conducting(setting: &[u8]) -> [u8; CODES]
-    requires { (length setting.now ≤ max_switches) × (is_setting (length setting.now) setting.now ≡ true) }
-    ensures { result ≡ on_codes setting.now }
-{
-    let mut on = [0u8; CODES];
-    let end = 2 + 2 * setting.len();
-    let mut code = 0;
-    while code < end {
-        on[code] = byte_of(conducts_code(code as u8, setting));
-        code += 1;
-    }
-    on
-}
+use common::{Fault, Refusal};
 
 // The rounds of m rows and n columns, without light's checks: each wire's first round, and zeros past them. The answer is the count of
-// rounds, or m + n where no number of rounds below it is at rest.
-fn light_wires(cells: &[u8], setting: &[u8], m: usize, n: usize, firsts: &mut [u16]) -> u16
+// rounds, and none where no number of rounds below that of the wires is at rest.
+fn light_wires(cells: &[u8], setting: &[u8], m: usize, n: usize, firsts: &mut [u16]) -> Option<u16>
     requires { LampReady cells.now setting.now m n firsts.old }
-    ensures { Counted m n (joins cells.now n setting.now) (length firsts.old) result firsts.new }
+    ensures { Settled m n (joins cells.now n setting.now) (length firsts.old) firsts.new result }
 {
-    let on = conducting(setting);
-    let mut rows = [0u32; MAX_ROWS];
-    let mut columns = [0u32; MAX_COLUMNS];
-    clear_numbers(firsts);
+    firsts.fill(0);
     firsts[0] = 1;
-    rounds(cells, &on, &mut rows[..m], &mut columns[..n], firsts)
+    let on = conducting(setting);
+    rounds(Lamp { cells, on: &on }, m, n, firsts)
 }
 
-// A refusal by a number, line 0: the answer, and zeros in the whole buffer.
-fn refuse(number: u32, out: &mut [u16]) -> Lighted
-    ensures { (result ≡ lighted (refused number 0)) × (out.new ≡ zeros (length out.old)) }
+// A refusal, line 0, and zeros in the whole buffer.
+fn refuse(fault: Fault, out: &mut [u16]) -> Result<u16, Refusal>
+    ensures { (result ≡ Err (record { fault = fault; line = 0 })) × (out.new ≡ zeros (length out.old)) }
 {
-    clear_numbers(out);
-    Lighted {
-        refusal: Refusal { number, line: 0 },
-        rounds: 0,
-    }
+    out.fill(0);
+    Err(fault.at(0))
 }
 
 // Document 01: the count of rounds of a crossbar under a setting. Document 02, Req 01: "Light gives for each wire, in place of its byte, a
 // 16-bit number". Document 01: "Light checks 12, 13, 14, 15."
-pub fn light(x: Crossbar, cells: &[u8], setting: &[u8], firsts: &mut [u16]) -> Lighted
-    ensures { Answered (light x cells.now setting.now (length firsts.old)) lighted (λ a. a.firsts) (length firsts.old) result firsts.new }
+pub fn light(x: Crossbar, cells: &[u8], setting: &[u8], firsts: &mut [u16]) -> Result<u16, Refusal>
+    ensures { Answered (light x cells.now setting.now (length firsts.old)) (handed (λ a. a.count)) (λ a. a.firsts) (length firsts.old) result firsts.new }
 {
-    let sound = is_sound(x, cells);
-    let fits = is_setting(x.switches, setting);
-    if !sound {
-        return refuse(12, firsts);
+    if !is_sound(x, cells) {
+        return refuse(Fault::Misplaced, firsts);
     }
-    if !fits {
-        return refuse(13, firsts);
+    if !is_setting(x.switches, setting) {
+        return refuse(Fault::WrongSetting, firsts);
     }
-    let m = x.rows as usize;
-    let n = x.columns as usize;
+    let m = usize::from(x.rows);
+    let n = usize::from(x.columns);
     if firsts.len() < m + n {
-        return refuse(14, firsts);
+        return refuse(Fault::NoRoom, firsts);
     }
-    let t = light_wires(cells, setting, m, n, firsts);
-    if m + n <= t as usize {
-        return refuse(15, firsts);
-    }
-    Lighted {
-        refusal: Refusal { number: 0, line: 0 },
-        rounds: t,
+    match light_wires(cells, setting, m, n, firsts) {
+        Some(count) => Ok(count),
+        None => refuse(Fault::Unsettled, firsts),
     }
 }

@@ -1,67 +1,52 @@
 -- The calls of the host library: the answer and every byte lent, from what the calls beneath hand over.
 use Prim.Native.Nat.{ℕ, ◌*◌, ◌/◌, ◌≤◌}
 use mathlib.Core.Path.{◌≡◌, refl, sym, ap, ◌∙◌}
-use mathlib.Core.Bool.{true, false}
 use mathlib.Core.List.{List, []}
 use native.Mathlib.Omega.{arith}
 use lib.ListN.{length}
+use Rattle.std.specs.Prelude.{Result, Ok, Err}
 use Rattle.common.specs.declared.Refusal.{Refusal}
+use Rattle.common.specs.Fault.{number_of_fault, handed}
 use Rattle.common.specs.Lists.{zeros, padded}
-use Rattle.common.specs.Outcome.{Outcome, done, refused, refusal_of, value_of, buffer_of, Answered, most_number}
+use Rattle.common.specs.Outcome.{Outcome, done, refused, buffer_of, Answered}
 use Rattle.cells.specs.declared.Crossbar.{Crossbar}
-use Rattle.jobs.specs.declared.Walked.{Walked}
-use Rattle.jobs.specs.Answer.{walked}
-use Rattle.jobs.specs.Job.{walk}
-use Rattle.conduction.specs.declared.Lighted.{Lighted}
-use Rattle.conduction.specs.Light.{Lit, light, lighted}
-use Rattle.listings.specs.declared.printing.Printed.{Printed}
-use Rattle.listings.specs.Listing.{print}
-use Rattle.listings.specs.Printing.{printed}
-use Rattle.common.proofs.Within.{EndsWithin, number_most}
-use Rattle.jobs.proofs.Refusals.{walk_ends}
-use Rattle.conduction.proofs.Light.{light_answers, lit_ends}
-use Rattle.listings.proofs.Refusals.{printed_ends}
-use Rattle.crossbar.specs.Bytes.{holds_record, record_from, pairs}
-use Rattle.crossbar.specs.Host.{number_unit, packed, packed_from, of_record, host_light, host_print, LightCall, PrintCall}
-use Rattle.crossbar.proofs.Records.{none_held, one_held}
-use Rattle.crossbar.proofs.Numbers.{packed_is}
+use Rattle.conduction.specs.Light.{Lit, light}
+use Rattle.common.proofs.Within.{EndsWithin}
+use Rattle.conduction.proofs.Light.{light_answers}
+use Rattle.crossbar.specs.Bytes.{record_from, pairs}
+use Rattle.crossbar.specs.declared.bytes.Record.{Record}
+use Rattle.crossbar.specs.Records.{RecordIs}
+use Rattle.crossbar.specs.Host.{packed, packed_from, of_record}
+use Rattle.crossbar.proofs.Records.{not_held, was_held, none_held, one_held}
+use Rattle.crossbar.proofs.Numbers.{grounded, packed_is}
 use Rattle.crossbar.proofs.Lent.{lent_numbers, lent_most, light_lent}
 use Rattle.crossbar.proofs.Pairs.{pairs-padded, no_numbers}
 
--- the answer from what a call beneath hands over
-answered : {A : Type 0} {P : A → Type 0} {b : ℕ} (value : A → ℕ) (o : Outcome A) (refusal : Refusal) (v r : ℕ)
-    → EndsWithin P b o → refusal ≡ refusal_of o → v ≡ value_of 0 value o → r ≡ packed_from refusal v → r ≡ packed value o
-answered value o refusal v r p e f h = rw (h, e, f) (sym (packed_is value o p))
+-- the answer of a call that reads a record: where the slice holds none, and where it holds one and the call beneath answers
+module _ {A : Type 0} (value : A → ℕ) (bytes : A → List ℕ) (s : List ℕ) (rest : Crossbar → Outcome A) (room r : ℕ) (after : List ℕ) where
+  pub none_answered :
+      (e : Refusal)
+      → RecordIs s (Err e)
+      → r ≡ packed_from (Err e)
+      → after ≡ zeros room
+      → Answered (of_record s (rest (record_from s))) (packed value) bytes room r after
+  unfolding packed packed_from number_of_fault buffer_of
+  none_answered e h a f =
+      let no = not_held s e h in
+      rw (none_held s (rest (record_from s)) no.0) (record { answer = a ∙ rw no.1; buffer = f })
 
--- a slice that holds no record is refused
-refused_12 :
-    {A : Type 0} (value : A → ℕ) (bytes : A → List ℕ) (s : List ℕ) (rest : Outcome A) (room r : ℕ) (after : List ℕ)
-    → holds_record s ≡ false
-    → r ≡ 12 * number_unit
-    → after ≡ zeros room
-    → Answered (of_record s rest) (packed value) bytes room r after
-unfolding packed buffer_of
-refused_12 value bytes s rest room r after h e f = rw (none_held s rest h) (record { answer = e; buffer = f })
-
-pub light_refused :
-    (s cells setting before after : List ℕ) (r : ℕ)
-    → holds_record s ≡ false
-    → r ≡ 12 * number_unit
-    → after ≡ zeros (length before)
-    → LightCall s cells setting before r after
-unfolding host_light
-light_refused s cells setting before after r =
-    refused_12 (λ a. a.count) (λ a. pairs a.firsts) s (light (record_from s) cells setting (length before / 2)) (length before) r after
-
-pub print_refused :
-    (s cells before after : List ℕ) (r : ℕ)
-    → holds_record s ≡ false
-    → r ≡ 12 * number_unit
-    → after ≡ zeros (length before)
-    → PrintCall s cells before r after
-unfolding host_print
-print_refused s cells before after r =
-    refused_12 length (λ t. t) s (print (record_from s) cells (length before)) (length before) r after
+  pub one_answered :
+      {P : A → Type 0} {b : ℕ} (x : Record) (v w : Result ℕ Refusal)
+      → EndsWithin P b (rest x.0)
+      → RecordIs s (Ok x)
+      → Answered (rest x.0) (handed value) bytes room v after
+      → w ≡ v
+      → r ≡ packed_from w
+      → Answered (of_record s (rest (record_from s))) (packed value) bytes room r after
+  one_answered x v w ends h a e f =
+      let found = was_held s x h in
+      rw (one_held s (rest (record_from s)) found.0, ← found.1)
+      (record { answer = f ∙ packed_is value (rest x.0) w (grounded (rest x.0) ends) (e ∙ a.answer); buffer = a.buffer })
 
 -- the bytes of the numbers that light left
 pairs_left :
@@ -73,11 +58,11 @@ pairs_left k n (refused number line) h long =
     ap (λ (l : List ℕ). padded n (pairs l)) (no_numbers k) ∙ pairs-padded n k [] (omega arith) h ∙ sym (no_numbers n)
 
 pub light-bytes :
-    (x : Crossbar) (cells setting before after numbers : List ℕ) (k : ℕ) (lit : Lighted)
+    (x : Crossbar) (cells setting before after numbers : List ℕ) (k : ℕ) (lit : Result ℕ Refusal)
     → k ≡ lent_numbers x (length before)
-    → Answered (light x cells setting k) lighted (λ a. a.firsts) k lit numbers
+    → Answered (light x cells setting k) (handed (λ a. a.count)) (λ a. a.firsts) k lit numbers
     → after ≡ padded (length before) (pairs numbers)
-    → Answered (light x cells setting (length before / 2)) lighted (λ a. pairs a.firsts) (length before) lit after
+    → Answered (light x cells setting (length before / 2)) (handed (λ a. a.count)) (λ a. pairs a.firsts) (length before) lit after
 light-bytes x cells setting before after numbers k lit is a written =
     let same : light x cells setting k ≡ light x cells setting (length before / 2) =
     ap (light x cells setting) is ∙ light_lent x cells setting (length before) in
@@ -91,62 +76,3 @@ light-bytes x cells setting before after numbers k lit is a written =
           ∙ ap (λ (l : List ℕ). padded (length before) (pairs l)) a.buffer
           ∙ pairs_left k (length before) (light x cells setting k) (rw is (lent_most x (length before))) long;
     })
-
-module _
-    (x : Crossbar)
-    (cells setting before after : List ℕ)
-    (lit : Lighted)
-    (a : Answered (light x cells setting (length before / 2)) lighted (λ a. pairs a.firsts) (length before) lit after)
-  where
-    pub light-numbers : lit.refusal.number ≤ most_number
-    unfolding lighted
-    light-numbers =
-        let o = light x cells setting (length before / 2) in
-        rw a.answer (number_most o (lit_ends x cells setting (length before / 2)))
-
-    pub light_answered :
-        (s : List ℕ) (r : ℕ)
-        → holds_record s ≡ true
-        → x ≡ record_from s
-        → r ≡ packed_from lit.refusal lit.rounds
-        → LightCall s cells setting before r after
-    unfolding host_light lighted
-    light_answered s r h e f =
-        let o = light x cells setting (length before / 2) in
-        rw (one_held s (light (record_from s) cells setting (length before / 2)) h, ← e)
-        (record {
-          answer = answered (λ a. a.count) o lit.refusal lit.rounds r (lit_ends x cells setting (length before / 2))
-              (ap (λ (l : Lighted). l.refusal) a.answer) (ap (λ (l : Lighted). l.rounds) a.answer) f;
-          buffer = a.buffer;
-        })
-
-module _ (x : Crossbar) (cells : List ℕ) (room : ℕ) (p : Printed) (after : List ℕ) (a : Answered (print x cells room) printed (λ t. t) room p after) where
-  pub print-numbers : p.refusal.number ≤ most_number
-  unfolding printed
-  print-numbers = rw a.answer (number_most (print x cells room) (printed_ends x cells room))
-
-  pub print_answered :
-      (s : List ℕ) (r : ℕ)
-      → holds_record s ≡ true
-      → x ≡ record_from s
-      → r ≡ packed_from p.refusal p.length
-      → Answered (host_print s cells room) (packed length) (λ t. t) room r after
-  unfolding host_print printed
-  print_answered s r h e f =
-      rw (one_held s (print (record_from s) cells room) h, ← e)
-      (record {
-        answer = answered length (print x cells room) p.refusal p.length r (printed_ends x cells room)
-            (ap (λ (l : Printed). l.refusal) a.answer) (ap (λ (l : Printed). l.length) a.answer) f;
-        buffer = a.buffer;
-      })
-
-module _ (text setting : List ℕ) (output : ℕ) (w : Walked) (a : w ≡ walked (walk text setting output)) where
-  pub walk-numbers : w.refusal.number ≤ most_number
-  unfolding walked
-  walk-numbers = rw a (number_most (walk text setting output) (walk_ends text setting output))
-
-  pub walk_answered : (r : ℕ) → r ≡ packed_from w.refusal w.value → r ≡ packed (λ v. v) (walk text setting output)
-  unfolding walked
-  walk_answered r f =
-      answered (λ v. v) (walk text setting output) w.refusal w.value r (walk_ends text setting output)
-      (ap (λ (q : Walked). q.refusal) a) (ap (λ (q : Walked). q.value) a) f

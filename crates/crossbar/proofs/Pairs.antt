@@ -2,19 +2,25 @@
 use Prim.Native.Nat.{ℕ, zero, suc, ◌+◌, ◌-◌, ◌*◌, ◌/◌, ◌%◌, ◌≤◌, ◌<◌}
 use mathlib.Core.Path.{◌≡◌, refl, sym, ap, ◌∙◌}
 use mathlib.Core.Bool.{true}
-use mathlib.Core.List.{List, [], ◌∷◌, ◌++◌, append-nil, append_assoc}
+use mathlib.Core.List.{List, [], ◌∷◌, ◌++◌}
 use native.Mathlib.Omega.{arith}
 use native.Mathlib.Numerals.{add-one}
 use lib.Dec.{ltb}
 use lib.ListN.{length, get_or, take, set, length-append}
-use lib.Seq.{ext_get_or, take-suc, length-take-le}
+use lib.Seq.{ext_get_or, take-suc, set-append_seam, append_snoc, length-take-le}
 use borrow.Author.Tests.{ltb-true}
 use Rattle.common.specs.Limits.{max_outputs}
 use Rattle.common.specs.Lists.{zeros, padded, tab, all_of}
 use Rattle.common.proofs.Lists.{length-tab, get_or-tab, all_of_at, length-padded, get_or-padded_any, get_or_before_zeros}
 use Rattle.cells.specs.declared.Crossbar.{Crossbar}
-use Rattle.placement.proofs.Heads.{pad_more}
-use Rattle.crossbar.specs.Bytes.{record_length, numbers_of, pairs, record_bytes, with_number, with_numbers, number_at, record_from}
+use Rattle.crossbar.specs.Bytes.{record_length, numbers_of, pairs, record_bytes, number_at, record_from}
+
+-- an entry past the padded list's own
+pad_more : (n : ℕ) (s : List ℕ) (a i : ℕ) → i ≡ length s → i < n → set (padded n s) i a ≡ padded n (s ++ (a ∷ []))
+unfolding padded
+pad_more n s a i e h =
+    let left : n - length s ≡ suc (n - length (s ++ (a ∷ []))) = simp length-append (omega arith) in
+    rw (e, left) (set-append_seam s 0 (zeros (n - length (s ++ (a ∷ [])))) a ∙ sym (append_snoc s a (zeros (n - length (s ++ (a ∷ []))))))
 
 pub length_pairs : (ns : List ℕ) → length (pairs ns) ≡ 2 * length ns
 unfolding pairs
@@ -26,58 +32,24 @@ unfolding pairs
 pairs_more [] a = refl
 pairs_more (n ∷ ns) a = ap (λ (l : List ℕ). n % 256 ∷ n / 256 ∷ l) (pairs_more ns a)
 
--- one number more in a buffer that holds numbers
-pub number_more :
-    (n i a : ℕ) (ns s : List ℕ)
-    → length ns ≡ i
-    → 2 * i + 1 < n
-    → s ≡ padded n (pairs ns)
-    → with_number s i a ≡ padded n (pairs (ns ++ (a ∷ [])))
-number_more n i a ns s e h f =
-    let long : 2 * i ≡ length (pairs ns) = rw length_pairs (omega arith) in
-    let longer : 2 * i + 1 ≡ length (pairs ns ++ (a % 256 ∷ [])) = simp (length-append, length_pairs) (omega arith) in
-    rw (f, pad_more n (pairs ns) (a % 256) (2 * i) long (omega arith), pairs_more)
-    (pad_more n (pairs ns ++ (a % 256 ∷ [])) (a / 256) (2 * i + 1) longer h)
-
--- numbers more
-pub numbers_more :
-    (n i : ℕ) (ms ns s : List ℕ)
-    → length ms ≡ i
-    → 2 * (i + length ns) ≤ n
-    → s ≡ padded n (pairs ms)
-    → with_numbers s i ns ≡ padded n (pairs (ms ++ ns))
-unfolding with_numbers
-numbers_more n i ms [] s e h f = f ∙ ap (λ (l : List ℕ). padded n (pairs l)) (sym (append-nil ms))
-numbers_more n i ms (a ∷ ns) s e h f =
-    let longer : length (ms ++ (a ∷ [])) ≡ i + 1 = simp length-append (omega arith) in
-    let next = number_more n i a ms s e (omega arith) f in
-    numbers_more n (i + 1) (ms ++ (a ∷ [])) ns (with_number s i a) longer (omega arith) next
-    ∙ ap (λ (l : List ℕ). padded n (pairs l)) (append_assoc ms (a ∷ []) ns)
-
--- the last of some numbers is put after the others
-numbers_last :
-    (s : List ℕ) (i : ℕ) (ns : List ℕ) (a : ℕ) → with_numbers s i (ns ++ (a ∷ [])) ≡ with_number (with_numbers s i ns) (i + length ns) a
-unfolding with_numbers
-numbers_last s i [] a = let e : i + 0 ≡ i = omega arith in rw e
-numbers_last s i (n ∷ ns) a =
-    let e : i + length (n ∷ ns) ≡ i + 1 + length ns = omega arith in
-    rw e (numbers_last (with_number s i n) (i + 1) ns a)
-
--- the output rows are put one by one
-pub outs_more :
-    (s outs : List ℕ) (j : ℕ)
-    → j < length outs
-    → with_number (with_numbers s 4 (take j outs)) (4 + j) (get_or outs j 0) ≡ with_numbers s 4 (take (j + 1) outs)
-outs_more s outs j h =
-    let long : length (take j outs) ≡ j = length-take-le j outs (omega arith) in
-    let next : take (j + 1) outs ≡ take j outs ++ (get_or outs j 0 ∷ []) = rw add-one (take-suc outs j 0 h) in
-    rw (next, numbers_last, long)
-
--- a table with one entry more
-pub tab_more :
-    (f : ℕ → ℕ) (n j : ℕ) → j < n → set (padded n (tab j f)) j (f j) ≡ padded n (tab (j + 1) f)
-unfolding tab
-tab_more f n j h = rw add-one (pad_more n (tab j f) (f j) j (sym (length-tab j f)) h)
+-- one number more in a buffer that holds those before it
+pub number_next :
+    (n i low high : ℕ) (ns s : List ℕ)
+    → i < length ns
+    → 2 * length ns ≤ n
+    → low ≡ get_or ns i 0 % 256
+    → high ≡ get_or ns i 0 / 256
+    → s ≡ padded n (pairs (take i ns))
+    → set (set s (2 * i) low) (2 * i + 1) high ≡ padded n (pairs (take (i + 1) ns))
+number_next n i low high ns s h room el eh f =
+    let a = get_or ns i 0 in
+    let ms = take i ns in
+    let next : take (i + 1) ns ≡ ms ++ (a ∷ []) = rw add-one (take-suc ns i 0 h) in
+    let front : length ms ≡ i = length-take-le i ns (omega arith) in
+    let long : 2 * i ≡ length (pairs ms) = rw length_pairs (omega arith) in
+    let longer : 2 * i + 1 ≡ length (pairs ms ++ (a % 256 ∷ [])) = simp (length-append, length_pairs) (omega arith) in
+    rw (next, f, el, eh, pad_more n (pairs ms) (a % 256) (2 * i) long (omega arith), pairs_more)
+    (pad_more n (pairs ms ++ (a % 256 ∷ [])) (a / 256) (2 * i + 1) longer (omega arith))
 
 -- a number from its two bytes
 number_in : (ns : List ℕ) (i : ℕ) → number_at (pairs ns) i ≡ get_or ns i 0

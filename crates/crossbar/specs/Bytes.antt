@@ -1,6 +1,6 @@
 -- Numbers as bytes, two bytes a number, low byte first: the crossbar record, which is R, C, V, K and the 32 output rows, and the first rounds
 -- (document 02, Req 01: "for the host two bytes, low first").
-use Rattle.std.specs.Prelude.{ℕ, ◌+◌, ◌*◌, ◌/◌, ◌%◌, Bool, ◌&&◌, List, [], ◌∷◌, length, get_or, set, drop, eqb, leb}
+use Rattle.std.specs.Prelude.{ℕ, ◌+◌, ◌*◌, ◌/◌, ◌%◌, Bool, ◌&&◌, List, [], ◌∷◌, length, get_or, drop, eqb, leb}
 use Rattle.common.specs.Limits.{max_outputs}
 use Rattle.common.specs.Lists.{tab, all_of}
 use Rattle.cells.specs.declared.Crossbar.{Crossbar}
@@ -24,15 +24,6 @@ record_bytes x = pairs (numbers_of x)
 -- whether bytes hold a record: there are as many as a record has, and every byte past it is 0, as in a slice of cells
 unfoldable pub holds_record : List ℕ → Bool
 holds_record s = leb record_length (length s) && all_of (λ b. eqb b 0) (drop record_length s)
-
--- a buffer with the number n put at place i: these two bytes change and all others stay
-abbrev pub with_number : List ℕ → ℕ → ℕ → List ℕ
-with_number s i n = set (set s (2 * i) (n % 256)) (2 * i + 1) (n / 256)
-
--- a buffer with numbers put at the places i, i + 1, .. in turn: all other bytes stay
-unfoldable pub with_numbers : List ℕ → ℕ → List ℕ → List ℕ
-with_numbers s i [] = s
-with_numbers s i (n ∷ ns) = with_numbers (with_number s i n) (i + 1) ns
 
 -- number i of bytes
 unfoldable pub number_at : List ℕ → ℕ → ℕ

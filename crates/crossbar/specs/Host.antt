@@ -1,11 +1,10 @@
 -- The five calls of the host library. Document 01, "The services": "The same calls are offered to the buyer's host program, written in
 -- C, on numbers and byte slices." Each answers one number: the refusal's number times 2 to the 56th, plus the line; or, where nothing is
 -- refused, the call's value. Parts.antt says that these are read back from it.
-use Rattle.std.specs.Prelude.{ℕ, ◌+◌, ◌*◌, ◌/◌, ◌^◌, ◌≡◌, true, false, not, ◌&&◌, List, [], ◌∷◌, length, eqb, ltb}
+use Rattle.std.specs.Prelude.{ℕ, ◌+◌, ◌*◌, ◌/◌, ◌^◌, ◌≡◌, not, List, [], ◌∷◌, length, ltb, Result, Ok, Err}
 use Rattle.common.specs.declared.Refusal.{Refusal}
-use Rattle.common.specs.Lists.{zeros}
+use Rattle.common.specs.Fault.{number_of_fault, fault_of}
 use Rattle.common.specs.Outcome.{Outcome, done, refused, ◌then◌, ◌when◌, lowest, unless, Answered}
-use Rattle.cells.specs.declared.Crossbar.{Crossbar}
 use Rattle.cells.specs.Record.{Whole, size}
 use Rattle.jobs.specs.Job.{walk}
 use Rattle.placement.specs.Map.{map_job}
@@ -23,17 +22,15 @@ unfoldable pub packed : {A : Type 0} → (A → ℕ) → Outcome A → ℕ
 packed value (done a) = value a
 packed value (refused k n) = k * number_unit + n
 
--- the same number from the refusal, whose number is 0 where nothing is refused, and the value that a call hands over
-unfoldable pub packed_from : Refusal → ℕ → ℕ
-packed_from r value = packed (λ v. v) (unless r.number r.line (done value))
+-- the same number from what a call hands over
+unfoldable pub packed_from : Result ℕ Refusal → ℕ
+packed_from (Ok value) = value
+packed_from (Err r) = number_of_fault r.fault * number_unit + r.line
 
--- a record for a buffer of n bytes, after the refusal of a call beneath: ground 14 where the buffer is shorter than a record, line 0
-unfoldable pub delivery : Refusal → Crossbar → ℕ → Outcome Crossbar
-delivery refusal x n = unless refusal.number refusal.line (unless (lowest ((14 when ltb n record_length) ∷ [])) 0 (done x))
-
--- the cells that this call left in their buffer: zeros in their place where only the record's buffer is too short
-unfoldable pub cells_left : Refusal → ℕ → List ℕ → List ℕ
-cells_left refusal n cells = elim (eqb refusal.number 0 && ltb n record_length) [ true ↦ zeros (length cells) | false ↦ cells ]
+-- a refusal has the number of a ground
+unfoldable pub Grounded : {A : Type 0} → Outcome A → Type 0
+Grounded (done a) = Unit
+Grounded (refused k n) = number_of_fault (fault_of k) ≡ k
 
 -- a crossbar for two buffers: ground 14 also where the record's is shorter than a record, line 0
 unfoldable pub for_record : ℕ → Outcome Whole → Outcome Whole

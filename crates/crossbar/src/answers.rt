@@ -1,53 +1,57 @@
 // One number for an outcome: the refusal's number in the highest byte and its line, or the call's value.
-ghost use Rattle.std.specs.Prelude.{◌≡◌, ◌*◌, ◌≤◌, length};
+ghost use Rattle.std.specs.Prelude.{◌≡◌, length, Err};
+ghost use Rattle.common.specs.Fault.{handed};
 ghost use Rattle.common.specs.Lists.{zeros};
-ghost use Rattle.common.specs.Outcome.{Answered, most_number};
-ghost use Rattle.cells.specs.Record.{size};
-ghost use Rattle.crossbar.specs.Bytes.{record_bytes};
-ghost use Rattle.crossbar.specs.Host.{number_unit, packed, packed_from, delivery, cells_left};
+ghost use Rattle.common.specs.Outcome.{Outcome, buffer_of};
+ghost use Rattle.cells.specs.Record.{Whole};
+ghost use Rattle.crossbar.specs.Host.{packed_from, for_record, Delivered, Grounded};
 
 use crate::bytes::{RECORD_BYTES, write_record};
 use cells::Crossbar;
-use common::{Refusal, clear};
+use common::{Fault, Refusal};
 
-// What the number of a refusal counts for in an answer: 2 to the 56th.
-const NUMBER_UNIT: u64 = 72057594037927936;
+// What the number of a refusal counts for in an answer.
+const NUMBER_UNIT: u64 = 1 << 56;
 
-// The answer for a refusal, or for a value where nothing is refused.
-pub fn pack(refusal: Refusal, value: u64) -> u64
-    requires { refusal.number ≤ most_number }
-    ensures { result ≡ packed_from refusal value }
+// The answer for a value, or for a refusal.
+#[tactic(auto, using(crate::proofs::Numbers::number_most), unfolding(crate::specs::Host::packed_from))]
+pub fn pack(answer: Result<u64, Refusal>) -> u64
+    ensures { result ≡ packed_from answer }
 {
-    if refusal.number == 0 {
-        return value;
+    match answer {
+        Ok(value) => value,
+        Err(refusal) => u64::from(refusal.fault.number()) * NUMBER_UNIT + u64::from(refusal.line),
     }
-    (refusal.number as u64) * NUMBER_UNIT + refusal.line as u64
 }
 
-// A refusal by a number, line 0: the answer, and zeros in the whole buffer.
-pub fn refuse(out: &mut [u8], number: u32) -> u64
-    requires { number ≤ most_number }
-    ensures { (result ≡ number * number_unit) × (out.new ≡ zeros (length out.old)) }
+// A refusal: its answer, and zeros in the whole buffer.
+pub fn refuse(out: &mut [u8], refusal: Refusal) -> u64
+    ensures answer { result ≡ packed_from (Err refusal) }
+    ensures buffer { out.new ≡ zeros (length out.old) }
 {
-    clear(out);
-    (number as u64) * NUMBER_UNIT
+    out.fill(0);
+    pack(Err(refusal))
 }
 
 // A crossbar for two buffers, of which the cells' buffer holds the cells: ground 14 also where the record's buffer is shorter than a
 // record.
-pub fn deliver(refusal: Refusal, x: Crossbar, head: &mut [u8], cells: &mut [u8]) -> u64
-    requires { refusal.number ≤ most_number }
-    ensures answer { Answered (delivery refusal x (length head.old)) (packed size) record_bytes (length head.old) result head.new }
-    ensures cells_left { cells.new ≡ cells_left refusal (length head.old) cells.old }
+pub fn deliver(made: Result<Crossbar, Refusal>, head: &mut [u8], cells: &mut [u8]) -> u64
+    ensures refused { (e : Refusal) → made ≡ Err e → (result ≡ packed_from (Err e)) × (head.new ≡ zeros (length head.old)) × (cells.new ≡ cells.old) }
+    ensures delivered { (o : Outcome Whole)
+        → Grounded o
+        → made ≡ handed (λ w. w.head) o
+        → cells.old ≡ buffer_of (length cells.old) (λ w. w.codes) o
+        → Delivered (for_record (length head.old) o) (length head.old) (length cells.old) result head.new cells.new }
 {
-    if refusal.number != 0 {
-        clear(head);
-        return pack(refusal, 0);
+    match made {
+        Ok(x) if RECORD_BYTES <= head.len() => {
+            write_record(head, x);
+            u64::from(x.rows) * u64::from(x.columns)
+        }
+        Ok(_) => {
+            cells.fill(0);
+            refuse(head, Fault::NoRoom.at(0))
+        }
+        Err(refusal) => refuse(head, refusal),
     }
-    if head.len() < RECORD_BYTES {
-        clear(cells);
-        return refuse(head, 14);
-    }
-    write_record(head, x);
-    (x.rows as u64) * (x.columns as u64)
 }

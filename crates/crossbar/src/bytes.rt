@@ -1,105 +1,86 @@
 // Numbers as bytes, two bytes a number, low byte first: the crossbar record, which is R, C, V, K and the 32 output rows, and the first
 // rounds.
-ghost use Rattle.std.specs.Prelude.{◌≡◌, ◌+◌, ◌*◌, ◌≤◌, ◌<◌, min, length};
+ghost use Rattle.std.specs.Prelude.{◌≡◌, ◌+◌, ◌*◌, ◌≤◌, ◌<◌, length};
 ghost use Rattle.common.specs.Lists.{padded};
-ghost use Rattle.crossbar.specs.Bytes.{record_length, pairs, record_bytes, with_number, with_numbers, number_at, record_from, holds_record};
+ghost use Rattle.crossbar.specs.Records.{RecordIs};
+ghost use Rattle.crossbar.specs.Bytes.{record_length, numbers_of, pairs, record_bytes, number_at};
 
 use cells::Crossbar;
-use common::MAX_OUTPUTS;
+use cells::checks::is_zero;
+use common::{Fault, MAX_OUTPUTS, Refusal};
+use std::array;
 
-// How many bytes a record has.
-pub const RECORD_BYTES: usize = 2 * (4 + MAX_OUTPUTS);
+// How many numbers and how many bytes a record has.
+const RECORD_NUMBERS: usize = 4 + MAX_OUTPUTS;
+
+pub const RECORD_BYTES: usize = 2 * RECORD_NUMBERS;
 
 // The number at place i of bytes.
+#[tactic(auto, unfolding(crate::specs::Bytes::number_at))]
 fn number_at(s: &[u8], i: usize) -> u16
     requires { 2 * i + 1 < length s.now }
     ensures { result ≡ number_at s.now i }
 {
-    (s[2 * i] as u16) + 256 * (s[2 * i + 1] as u16)
+    u16::from_le_bytes([s[2 * i], s[2 * i + 1]])
 }
 
-// Whether bytes hold a record: not fewer than it has, and 0 in every byte past it.
-#[tactic(auto, using(crate::proofs::Records::holds_short), unfolding(crate::specs::Bytes::record_length, common::specs::Limits::max_outputs))]
-pub fn holds_record(s: &[u8]) -> bool
-    ensures { result ≡ holds_record s.now }
-{
-    if s.len() < RECORD_BYTES {
-        return false;
-    }
-    cells::checks::all_zero_from(s, RECORD_BYTES)
-}
+// A crossbar's record as bytes hold it.
+#[derive(Clone, Copy)]
+pub struct Record(pub Crossbar);
 
-// The record that bytes hold.
-pub fn read_record(s: &[u8]) -> Crossbar
-    requires { record_length ≤ length s.now }
-    ensures { result ≡ record_from s.now }
-{
-    let mut outs = [0u16; MAX_OUTPUTS];
-    let mut j = 0;
-    while j < MAX_OUTPUTS {
-        outs[j] = number_at(s, 4 + j);
-        j += 1;
-    }
-    Crossbar {
-        rows: number_at(s, 0),
-        columns: number_at(s, 1),
-        switches: number_at(s, 2),
-        outputs: number_at(s, 3),
-        outs,
+impl TryFrom<&[u8]> for Record {
+    type Error = Refusal;
+
+    ghost try_from_gives = { λ s r. RecordIs s.now r };
+
+    // Ground 12, line 0: the bytes are fewer than a record has, or one past it is not 0.
+    #[tactic(auto, using(crate::proofs::Records::none), unfolding(crate::specs::Bytes::record_length, common::specs::Limits::max_outputs))]
+    fn try_from(s: &[u8]) -> Result<Record, Refusal> {
+        match s.split_at_checked(RECORD_BYTES) {
+            Some((_, past)) if is_zero(past) => Ok(Record(Crossbar {
+                rows: number_at(s, 0),
+                columns: number_at(s, 1),
+                switches: number_at(s, 2),
+                outputs: number_at(s, 3),
+                outs: array::from_fn(|j| number_at(s, 4 + j)),
+            })),
+            _ => Err(Fault::Misplaced.at(0)),
+        }
     }
 }
 
-// A number at place i of a buffer; all other bytes stay.
-fn put_number(out: &mut [u8], i: usize, n: u16)
-    requires { 2 * i + 1 < length out.old }
-    ensures { out.new ≡ with_number out.old i n }
-{
-    out[2 * i] = (n % 256) as u8;
-    out[2 * i + 1] = (n / 256) as u8;
-}
+impl From<Record> for [u16; RECORD_NUMBERS] {
+    ghost from_gives = { λ x numbers. numbers ≡ numbers_of x.0 };
 
-// The output rows from place 4 of a buffer on; all other bytes stay.
-fn put_outs(out: &mut [u8], outs: [u16; MAX_OUTPUTS])
-    requires { record_length ≤ length out.old }
-    ensures { out.new ≡ with_numbers out.old 4 outs }
-{
-    let mut j = 0;
-    while j < MAX_OUTPUTS {
-        put_number(out, 4 + j, outs[j]);
-        j += 1;
+    #[tactic(auto, unfolding(crate::specs::Bytes::numbers_of))]
+    fn from(record: Record) -> [u16; RECORD_NUMBERS] {
+        let Record(x) = record;
+        let mut numbers = [0; RECORD_NUMBERS];
+        numbers[..4].copy_from_slice(&[x.rows, x.columns, x.switches, x.outputs]);
+        numbers[4..].copy_from_slice(&x.outs);
+        numbers
     }
 }
 
 // A record's bytes into a buffer, and zeros past them.
+#[tactic(auto, unfolding(crate::specs::Bytes::record_length, crate::specs::Bytes::record_bytes, common::specs::Limits::max_outputs))]
 pub fn write_record(out: &mut [u8], x: Crossbar)
     requires { record_length ≤ length out.old }
     ensures { out.new ≡ padded (length out.old) (record_bytes x) }
 {
-    common::clear(out);
-    put_number(out, 0, x.rows);
-    put_number(out, 1, x.columns);
-    put_number(out, 2, x.switches);
-    put_number(out, 3, x.outputs);
-    let outs = x.outs;
-    put_outs(out, outs);
+    write_numbers(out, &<[u16; RECORD_NUMBERS]>::from(Record(x)));
 }
 
-// Numbers into a buffer, and zeros past them.
+// Numbers into a buffer, and zeros past them. The bytes are written by their index: after a loop over `chunks_exact_mut` a proof knows the
+// buffer's length, but not what it holds.
 pub fn write_numbers(bytes: &mut [u8], numbers: &[u16])
     requires { 2 * length numbers.now ≤ length bytes.old }
     ensures { bytes.new ≡ padded (length bytes.old) (pairs numbers.now) }
 {
-    common::clear(bytes);
-    let mut i = 0;
-    while i < numbers.len() {
-        put_number(bytes, i, numbers[i]);
-        i += 1;
+    bytes.fill(0);
+    for (i, n) in numbers.iter().enumerate() {
+        let [low, high] = n.to_le_bytes();
+        bytes[2 * i] = low;
+        bytes[2 * i + 1] = high;
     }
-}
-
-// The smaller of two numbers.
-pub fn smaller(a: usize, b: usize) -> usize
-    ensures { result ≡ min a b }
-{
-    if a < b { a } else { b }
 }

@@ -1,4 +1,5 @@
-// The calls that a C program links: those of the crate crossbar, under the same names, as a static library.
+// The calls that a C program links: those of the crate crossbar, under the same names, as a static library. Each C name needs a function of
+// its own.
 #![tactic(auto)]
 
 ghost use Rattle.crossbar.specs.Host.{MapCall, WalkCall, LightCall, PrintCall, LoadCall};

@@ -1,10 +1,8 @@
 pub mod Canonical
 pub mod FaultLaws
 pub mod Owners
-pub mod Running
 pub mod SeenLaws
-pub mod TableLaws
-pub mod TableWalk
 pub mod Tables
 pub mod Valid
 pub mod Walk
+pub mod WalkLaws

@@ -1,16 +1,18 @@
 -- A diagram made line by line, each line meeting none of grounds 3 to 9, has the plain facts of a diagram.
 use Prim.Native.Nat.{ℕ, zero, suc, ◌≤◌, ◌<◌}
 use mathlib.Core.Path.{◌≡◌, refl, sym, ap}
-use mathlib.Core.Logic.{◌⊎◌, inl, inr, ⊎_elim}
-use mathlib.Core.Bool.{true, false, not, ◌&&◌}
+use mathlib.Core.Logic.{◌⊎◌, ⊎_elim}
+use mathlib.Core.Bool.{true, false, ◌&&◌}
 use mathlib.Core.List.{[], ◌∷◌}
 use native.Mathlib.Omega.{arith}
 use lib.ListN.{length, get_or, length-append, get_or-append}
 use lib.Dec.{eqb, ltb}
-use borrow.Author.Tests.{ltb-true, eqb-true, eqb-false, eq-eqb, le-leb, not-false}
+use Rattle.std.proofs.lemmas.Bool.{cases_eq}
+use Rattle.std.proofs.lemmas.Bool.Decides.{nat_tests}
+use borrow.Author.Tests.{ltb-true, eqb-true, eqb-false, not-false}
 use Rattle.common.specs.Lists.{any_of}
 use Rattle.common.proofs.Lists.{and_left, and_right, or-none, true_or_false, any_of_none}
-use Rattle.common.proofs.Lists.{below_or_not, equal_or_not, at_or_below, get_or_last}
+use Rattle.common.proofs.Lists.{at_or_below, get_or_last}
 use Rattle.common.proofs.Outcome.{not_met, others}
 use Rattle.diagram.specs.declared.Node.{Node}
 use Rattle.diagram.specs.Diagram.{Diagram, terminal, entries, entry, id_count, switch_at, label_at, bare, with_node, with_out}
@@ -85,13 +87,7 @@ fit_facts d e i n v same at f =
 -- a child in order has a later switch: a terminal tests none of the job's
 child_later : (d : Diagram) (x c : ℕ) → x < d.switches → unordered d x c ≡ false → x < switch_at d c
 unfolding unordered
-child_later d x c within h =
-    ⊎_elim
-    (λ (end : c < 2). omega (arith, switch_terminal d c end))
-    (λ (node : 2 ≤ c).
-    let late : not (ltb x (switch_at d c)) ≡ false = rw (le-leb 2 c node) at h in
-    ltb-true x (switch_at d c) (not-false (ltb x (switch_at d c)) late))
-    (below_or_not c 2)
+child_later d x c within h = let end = switch_terminal d c in grind (arith, nat_tests)
 
 -- what no fault says of a node's line
 pub node_id : (d : Diagram) (i : ℕ) (n : Node) → node_fault d i n ≡ 0 → i ≡ id_count d
@@ -152,8 +148,7 @@ turned n m s = record { same_x = sym s.same_x; same_l = sym s.same_l; same_h = s
 -- they meet the test of ground 8; no earlier node meets it
 same_test_lem : (n m : Node) → SameNode n m → same_test n m ≡ true
 unfolding same_test
-same_test_lem n m s =
-    rw (eq-eqb n.x m.x s.same_x, eq-eqb n.l m.l s.same_l, eq-eqb n.h m.h s.same_h)
+same_test_lem n m s = grind (arith, nat_tests, s.same_x, s.same_l, s.same_h)
 
 no_same :
     (d : Diagram) (n : Node) (k : ℕ)
@@ -180,8 +175,7 @@ facts_bare v t h least most =
     }
   where
     label : (t ≡ 2 → ⊥) → (t ≡ 1) ⊎ (t ≡ 3)
-    label other =
-        ⊎_elim (λ (e : t ≡ 1). inl e) (λ (e : t ≡ 1 → ⊥). inr (omega arith)) (equal_or_not t 1)
+    label other = grind arith
 
 -- with one node more
 module _ (d : Diagram) (n : Node) (facts : Facts d) (none : d.outs ≡ []) (fits : NodeFits d (id_count d) n) (new : any_of (same_test n) d.nodes ≡ false) where
@@ -194,10 +188,10 @@ module _ (d : Diagram) (n : Node) (facts : Facts d) (none : d.outs ≡ []) (fits
       → i < id_count (with_node d n)
       → P i
   by_age P last old i within =
-      ⊎_elim
-      (λ (e : i ≡ id_count d). rw e last)
-      (λ (below : i < id_count d). old i below)
-      (at_or_below i (id_count d) (omega (arith, id_count_node d n)))
+      let here = cases_eq i (id_count d) in
+      let more = id_count_node d n in
+      let before = old i in
+      grind arith
 
   node_at : (i : ℕ) → 2 ≤ i → i < id_count (with_node d n) → NodeFacts (with_node d n) i
   unfolding with_node
@@ -294,11 +288,11 @@ module _ (d : Diagram) (i : ℕ) (facts : Facts d) (named : i < id_count d) (in_
 -- what no fault says of an output's line
 pub out_below : (d : Diagram) (j i : ℕ) → out_fault d j i ≡ 0 → i < id_count d
 unfolding out_fault
-out_below d j i h = ltb-true i (id_count d) (not-false (ltb i (id_count d)) (not_met 4 _ _ (others 2 _ _ h)))
+out_below d j i h = grind (arith, nat_tests, not_met 4 _ _ (others 2 _ _ h))
 
 out_in_row : (d : Diagram) (j i : ℕ) → out_fault d j i ≡ 0 → label_at d i ≡ 2 → ⊥
 unfolding out_fault
-out_in_row d j i h = eqb-false (label_at d i) 2 (not_met 8 _ _ (others 4 _ _ (others 2 _ _ h)))
+out_in_row d j i h = grind (arith, nat_tests, not_met 8 _ _ (others 4 _ _ (others 2 _ _ h)))
 
 pub valid_facts : (d : Diagram) → Valid d → Facts d
 valid_facts d (valid_bare v t h least most) = facts_bare v t h least most

@@ -1,69 +1,64 @@
 // Ground 8: "An earlier node has the same X, L and H." Each node so far has marked the place of its X, L and H, so only a node whose
-// place is marked is compared with them all.
-ghost use Rattle.std.specs.Prelude.{◌≡◌, [], ◌≤◌, set};
-ghost use Rattle.common.specs.Limits.{max_nodes};
+// place is marked is compared with them all. The marks are an array and no set, since no call may allocate.
+ghost use Rattle.std.specs.Prelude.{◌≡◌, [], ◌∷◌, ◌++◌, List};
+ghost use Rattle.std.specs.List.{list_any};
 ghost use Rattle.common.specs.Lists.{any_of};
+ghost use Rattle.diagram.specs.declared.Node.{Node};
 ghost use Rattle.diagram.specs.Faults.{same_test};
-ghost use Rattle.diagram.specs.Table.{tabled};
-ghost use Rattle.diagram.specs.Seen.{seen_place, Marked};
+ghost use Rattle.diagram.specs.Seen.{seen_place, no_marks, with_mark, Marked};
 
 use super::Node;
-use super::table::{TABLE, entry_at};
 
-pub const SEEN: usize = 4096;
+const SEEN: usize = 4096;
+
+// The marks of some nodes.
+#[derive(Drop)]
+pub struct Seen {
+    marks: [bool; SEEN],
+}
+
+impl Seen {
+    // The marks of no nodes.
+    #[tactic(auto, using(crate::proofs::SeenLaws::marked_none), unfolding(crate::specs::Seen::no_marks, crate::specs::Seen::max_seen))]
+    pub fn new() -> Seen
+        ensures exact { result ≡ no_marks }
+        ensures marked { Marked result [] }
+    {
+        Seen {
+            marks: [false; SEEN],
+        }
+    }
+
+    // Marks a node too.
+    #[tactic(auto, using(crate::proofs::SeenLaws::place_below, crate::proofs::SeenLaws::marked_more), unfolding(crate::specs::Seen::with_mark, crate::specs::Seen::max_seen))]
+    pub fn mark(&mut self, node: Node)
+        ensures exact { self.new ≡ with_mark self.old node }
+        ensures marked { (nodes : List Node) → Marked self.old nodes → Marked self.new (nodes ++ node ∷ []) }
+    {
+        self.marks[place_of(node)] = true;
+    }
+
+    // Whether one of the nodes, which are marked, has the same switch and children.
+    #[tactic(auto, using(crate::proofs::SeenLaws::place_below, crate::proofs::SeenLaws::unmarked, crate::proofs::Tables::any_of_list), unfolding(crate::specs::Seen::max_seen))]
+    pub fn doubled(&self, nodes: &[Node], node: Node) -> bool
+        requires { Marked self.now nodes.now }
+        ensures { result ≡ any_of (same_test node) nodes.now }
+    {
+        self.marks[place_of(node)] && has_same(nodes, node)
+    }
+}
 
 // The place of a node.
+#[tactic(auto, unfolding(crate::specs::Seen::seen_place, crate::specs::Seen::max_seen))]
 fn place_of(node: Node) -> usize
     ensures { result ≡ seen_place node }
 {
-    (node.x as usize * 1021 + node.l as usize * 131 + node.h as usize * 7) % SEEN
+    (usize::from(node.x) * 1021 + usize::from(node.l) * 131 + usize::from(node.h) * 7) % SEEN
 }
 
-// Marks the place of a node.
-pub fn mark(seen: &mut [u8; SEEN], node: Node)
-    ensures { seen.new ≡ set seen.old (seen_place node) 1 }
+// Whether one of the nodes has the same switch and children.
+fn has_same(nodes: &[Node], node: Node) -> bool
+    ensures { result ≡ list_any (same_test node) nodes.now }
 {
-    let at = place_of(node);
-    seen[at] = 1;
-}
-
-// Whether two nodes have the same switch and children.
-fn same_test(a: Node, b: Node) -> bool
-    ensures { result ≡ same_test a b }
-{
-    if a.x != b.x {
-        return false;
-    }
-    if a.l != b.l {
-        return false;
-    }
-    a.h == b.h
-}
-
-// Whether one of n nodes has the same switch and children.
-fn has_same(table: &[u16; TABLE], n: usize, node: Node) -> bool
-    requires { n ≤ max_nodes }
-    ensures { result ≡ any_of (same_test node) (tabled table.now n []).nodes }
-{
-    let mut k = 0;
-    while k < n {
-        if same_test(node, entry_at(table, k + 2)) {
-            return true;
-        }
-        k += 1;
-    }
-    false
-}
-
-// The same, of nodes whose places are marked.
-pub fn doubled(table: &[u16; TABLE], seen: &[u8; SEEN], n: usize, node: Node) -> bool
-    requires n_le_max_nodes { n ≤ max_nodes }
-    requires marked { Marked seen.now (tabled table.now n []).nodes }
-    ensures { result ≡ any_of (same_test node) (tabled table.now n []).nodes }
-{
-    let at = place_of(node);
-    if seen[at] == 0 {
-        return false;
-    }
-    has_same(table, n, node)
+    nodes.iter().any(|earlier| node.same_test(*earlier))
 }

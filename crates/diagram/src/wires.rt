@@ -1,89 +1,83 @@
 // Document 01, "Placement" and ground 11: the numbers of the wires by id, and R and C.
-ghost use Rattle.std.specs.Prelude.{◌≡◌, [], ◌≤◌, length, take};
-ghost use Rattle.common.specs.Labels.{label_h, label_v};
-ghost use Rattle.common.specs.Limits.{max_nodes, max_outputs};
-ghost use Rattle.diagram.specs.Table.{tabled, Terminals, WireNumbers, dimensions_of};
+ghost use Rattle.std.specs.Prelude.{◌≡◌, ◌+◌, ◌-◌, ◌^◌, ◌<◌, []};
+ghost use Rattle.common.specs.Lists.{bit};
+ghost use Rattle.diagram.specs.Held.{held, wires_past, WireNumbers, wires_among, dimensions_of};
 ghost use Rattle.diagram.specs.Wires.{label_has, any_zero, exceeds};
 
-use super::table::{TABLE, entry_at};
-use super::{Dimensions, WireTable};
-use common::{LABEL_B, LABEL_H, LABEL_V, MAX_COLUMNS, MAX_IDS, MAX_OUTPUTS, MAX_ROWS};
+use super::{Diagram, Dimensions, IdWires};
+use common::{LABEL_B, LABEL_H, LABEL_V, MAX_COLUMNS, MAX_IDS, MAX_ROWS};
 
-// Labels `h` and `b` have a row.
-pub fn has_row(label: u16) -> bool
-    ensures { result ≡ label_has label_h label }
+// Whether a label has a wire of one kind. The kind is named by the label that has no other wire, `h` for rows and `v` for columns, as the law
+// names it (`label_has`): a name of its own would be turned into that label at once.
+pub fn has_wire(kind: u16, label: u16) -> bool
+    ensures { result ≡ label_has kind label }
 {
-    label == LABEL_H || label == LABEL_B
+    label == kind || label == LABEL_B
 }
 
-// Labels `v` and `b` have a column.
-pub fn has_column(label: u16) -> bool
-    ensures { result ≡ label_has label_v label }
+// How many ids have a wire of one kind. Terminal 0 has none.
+#[tactic(auto, using(crate::proofs::Owners::byte_bit), unfolding(crate::specs::Held::wires_among))]
+fn wire_count(d: &Diagram, kind: u16) -> usize
+    ensures { result ≡ wires_among kind d.now.nodes.now + bit (label_has kind d.now.one) }
 {
-    label == LABEL_V || label == LABEL_B
+    d.nodes.iter().filter(|node| has_wire(kind, node.t)).count()
+        + usize::from(has_wire(kind, d.one))
 }
 
-// Each wire has as its number how many ids before its own have one.
-pub fn number_wires(table: &[u16; TABLE], n: usize) -> WireTable
-    requires n_le_max_nodes { n ≤ max_nodes }
-    requires terminals { Terminals table.now }
-    ensures { WireNumbers (tabled table.now n []) result }
-{
-    let mut rows = [0u16; MAX_IDS];
-    let mut columns = [0u16; MAX_IDS];
-    let mut height: u16 = 0;
-    let mut width: u16 = 0;
-    let mut id = 0;
-    while id < n + 2 {
-        rows[id] = height;
-        columns[id] = width;
-        let entry = entry_at(table, id);
-        height += has_row(entry.t) as u16;
-        width += has_column(entry.t) as u16;
-        id += 1;
-    }
-    WireTable { rows, columns }
-}
-
-// Whether one of the first k outputs names 0.
-pub fn names_zero(outs: &[u16; MAX_OUTPUTS], k: usize) -> bool
-    requires { (k ≤ max_outputs) × (k ≤ length outs.now) }
-    ensures { result ≡ any_zero (take k outs.now) }
-{
-    let mut j = 0;
-    while j < k {
-        if outs[j] == 0 {
-            return true;
+impl IdWires {
+    // The numbers of the next id, after an id with this label.
+    #[tactic(auto, using(crate::proofs::Owners::byte_bit), unfolding(crate::specs::Held::wires_past))]
+    fn past(self, label: u16) -> IdWires
+        requires row_fits { self.row < 2 ^ 16 - 1 }
+        requires column_fits { self.column < 2 ^ 16 - 1 }
+        ensures { result ≡ wires_past self label }
+    {
+        IdWires {
+            row: self.row + u16::from(has_wire(LABEL_H, label)),
+            column: self.column + u16::from(has_wire(LABEL_V, label)),
         }
-        j += 1;
     }
-    false
 }
 
-// R and C of n nodes and k outputs.
-pub fn dimensions(table: &[u16; TABLE], outs: &[u16; MAX_OUTPUTS], n: usize, k: usize) -> Dimensions
-    requires n_le_max_nodes { (n ≤ max_nodes) × (k ≤ max_outputs) × (k ≤ length outs.now) }
-    requires terminals { Terminals table.now }
-    ensures { result ≡ dimensions_of (tabled table.now n (take k outs.now)) }
+// Each wire has as its number how many ids before its own have one. Terminal 0 has none, so those of both terminals are 0. The numbers are written
+// by their index, since after `iter_mut().zip(..)` a proof knows nothing of the elements.
+#[tactic(auto, using(crate::proofs::Owners::row_most, crate::proofs::Owners::column_most), unfolding(crate::specs::Held::held, common::specs::Limits::max_ids, common::specs::Limits::max_nodes))]
+pub fn number_wires(d: &Diagram) -> [IdWires; MAX_IDS]
+    ensures { WireNumbers (held d.now []) result }
 {
-    let mut rows = names_zero(outs, k) as u16;
-    let mut columns: u16 = 0;
-    let mut i = 0;
-    while i < n + 2 {
-        let entry = entry_at(table, i);
-        rows += has_row(entry.t) as u16;
-        columns += has_column(entry.t) as u16;
-        i += 1;
+    let first = IdWires::default();
+    let mut wires = [first; MAX_IDS];
+    let mut next = first.past(d.one);
+    for (k, node) in d.nodes.iter().enumerate() {
+        wires[k + 2] = next;
+        next = next.past(node.t);
     }
-    Dimensions { rows, columns }
+    wires
+}
+
+// Whether an output names 0.
+#[tactic(auto, using(crate::proofs::Tables::any_of_list))]
+pub fn names_zero(outs: &[u16]) -> bool
+    ensures { result ≡ any_zero outs.now }
+{
+    outs.contains(&0)
+}
+
+// R and C.
+#[tactic(auto, using(common::proofs::Lists::bit_most, crate::proofs::Owners::among_most, crate::proofs::Owners::dimensions_counted), unfolding(common::specs::Limits::max_nodes),)]
+pub fn dimensions(d: &Diagram, outs: &[u16]) -> Dimensions
+    ensures { result ≡ dimensions_of (held d.now outs.now) }
+{
+    Dimensions {
+        rows: wire_count(d, LABEL_H) as u16 + u16::from(names_zero(outs)),
+        columns: wire_count(d, LABEL_V) as u16,
+    }
 }
 
 // Ground 11: "R or C exceeds 128".
+#[tactic(auto, unfolding(common::specs::Limits::max_rows, common::specs::Limits::max_columns))]
 pub fn too_large(size: Dimensions) -> bool
     ensures { result ≡ exceeds size.rows size.columns }
 {
-    if MAX_ROWS < size.rows as usize {
-        return true;
-    }
-    MAX_COLUMNS < size.columns as usize
+    MAX_ROWS < usize::from(size.rows) || MAX_COLUMNS < usize::from(size.columns)
 }

@@ -2,7 +2,7 @@
 -- write the number.
 use Prim.Native.Nat.{ℕ, zero, suc, ◌+◌, ◌-◌, ◌*◌, ◌/◌, ◌%◌, ◌≤◌, ◌<◌}
 use mathlib.Core.Path.{◌≡◌, refl, sym, ap, ◌∙◌}
-use mathlib.Core.Logic.{⊎_elim}
+use mathlib.Core.Logic.{inl, inr}
 use mathlib.Core.Bool.{Bool, true, false, not, ◌||◌}
 use mathlib.Core.Option.{some}
 use mathlib.Core.List.{List, [], ◌∷◌, ◌++◌, append-nil}
@@ -50,14 +50,14 @@ digits-bytes : (k n : ℕ) (s : List ℕ) → all_of is_digit s ≡ true → all
 unfolding all_of
 digits-bytes zero n s h = unfold digits in h
 digits-bytes (suc k) n s h =
-    ⊎_elim
-    (λ (l : n < 10). rw (digits_one k n s l) (and_both (is_digit (48 + n)) (all_of is_digit s) (digit_is n l) h))
-    (λ (l : 10 ≤ n).
-    let d : n % 10 < 10 = omega arith in
-    rw (digits_more k n s l)
-    (digits-bytes k (n / 10) ((48 + n % 10) ∷ s)
-    (and_both (is_digit (48 + n % 10)) (all_of is_digit s) (digit_is (n % 10) d) h)))
-    (below_or_not n 10)
+    elim (below_or_not n 10) [
+      | inl l ↦ rw (digits_one k n s l) (and_both (is_digit (48 + n)) (all_of is_digit s) (digit_is n l) h)
+      | inr l ↦
+          let d : n % 10 < 10 = omega arith in
+          rw (digits_more k n s l)
+          (digits-bytes k (n / 10) ((48 + n % 10) ∷ s)
+          (and_both (is_digit (48 + n % 10)) (all_of is_digit s) (digit_is (n % 10) d) h))
+    ]
 
 pub decimal-bytes : (n : ℕ) → n < 100000 → all_of is_digit (decimal n) ≡ true
 unfolding decimal all_of
@@ -77,23 +77,22 @@ digits_number : (k n : ℕ) (s : List ℕ) → n < ten_to k → number_from 0 (d
 unfolding ten_to
 digits_number zero n s h = let e : n ≡ 0 = omega arith in rw (e, digits_none 0 s)
 digits_number (suc k) n s h =
-    ⊎_elim
-    (λ (l : n < 10).
-    rw (digits_one k n s l) (number_next 0 (48 + n) n s (omega arith)))
-    (λ (l : 10 ≤ n).
-    let below : n / 10 < ten_to k = omega arith in
-    rw (digits_more k n s l)
-    (digits_number k (n / 10) ((48 + n % 10) ∷ s) below ∙ number_next (n / 10) (48 + n % 10) n s (omega arith)))
-    (below_or_not n 10)
+    elim (below_or_not n 10) [
+      | inl l ↦ rw (digits_one k n s l) (number_next 0 (48 + n) n s (omega arith))
+      | inr l ↦
+          let below : n / 10 < ten_to k = omega arith in
+          rw (digits_more k n s l)
+          (digits_number k (n / 10) ((48 + n % 10) ∷ s) below ∙ number_next (n / 10) (48 + n % 10) n s (omega arith))
+    ]
 
 -- there are at most as many digits as places
 pub digits-length : (k n : ℕ) (s : List ℕ) → length (digits k n s) ≤ k + length s
 digits-length zero n s = unfold digits in omega arith
 digits-length (suc k) n s =
-    ⊎_elim
-    (λ (l : n < 10). rw (digits_one k n s l) (omega arith))
-    (λ (l : 10 ≤ n). rw (digits_more k n s l) (omega (arith, digits-length k (n / 10) ((48 + n % 10) ∷ s))))
-    (below_or_not n 10)
+    elim (below_or_not n 10) [
+      | inl l ↦ rw (digits_one k n s l) (omega arith)
+      | inr l ↦ rw (digits_more k n s l) (omega (arith, digits-length k (n / 10) ((48 + n % 10) ∷ s)))
+    ]
 
 -- whether there is a first digit and it is not 0
 unfoldable leads : List ℕ → Bool
@@ -104,14 +103,13 @@ digits_lead : (k n : ℕ) (s : List ℕ) → 1 ≤ n → n < ten_to k → leads 
 unfolding ten_to
 digits_lead zero n s p h = absurd (omega arith)
 digits_lead (suc k) n s p h =
-    ⊎_elim
-    (λ (l : n < 10).
-    rw (digits_one k n s l) (unfold leads in rw (ne_eqb (48 + n) 48 (λ (e : 48 + n ≡ 48). omega arith))))
-    (λ (l : 10 ≤ n).
-    let least : 1 ≤ n / 10 = omega arith in
-    let below : n / 10 < ten_to k = omega arith in
-    rw (digits_more k n s l) (digits_lead k (n / 10) ((48 + n % 10) ∷ s) least below))
-    (below_or_not n 10)
+    elim (below_or_not n 10) [
+      | inl l ↦ rw (digits_one k n s l) (unfold leads in rw (ne_eqb (48 + n) 48 (λ (e : 48 + n ≡ 48). omega arith)))
+      | inr l ↦
+          let least : 1 ≤ n / 10 = omega arith in
+          let below : n / 10 < ten_to k = omega arith in
+          rw (digits_more k n s l) (digits_lead k (n / 10) ((48 + n % 10) ∷ s) least below)
+    ]
 
 -- at most 5 digits of which the first is not 0 are a figure
 lead_figure : (ds : List ℕ) → leads ds ≡ true → length ds ≤ 5 → is_figure ds ≡ true
@@ -221,26 +219,26 @@ decimal_zero = refl
 
 figure_decimal : (ds : List ℕ) → is_figure ds ≡ true → all_of is_digit ds ≡ true → decimal (number_from 0 ds) ≡ ds
 unfolding all_of
-figure_decimal [] f h = unfold is_figure in absurd (let z : ◌≡◌ {A = ℕ} 0 1 = cc in omega arith)
+figure_decimal [] f h = unfold is_figure in absurd cc
 figure_decimal (b ∷ ds) f h =
     let few : suc (length ds) ≤ 5 = figure_length (b ∷ ds) f in
     let range = digit_range b (and_left (is_digit b) (all_of is_digit ds) h) in
     let low : 48 ≤ b = range.0 in
     let high : b ≤ 57 = range.1 in
-    ⊎_elim
-    (λ (more : 48 < b).
-    let k : ℕ = 4 - length ds in
-    let back : 48 + (b - 48) ≡ b = omega arith in
-    ap decimal (number_next 0 b (b - 48) ds (omega arith))
-    ∙ decimal_is (number_from (b - 48) ds)
-    ∙ number_digits ds [] 5 (suc k) (b - 48) (omega arith) (omega arith) (and_right (is_digit b) (all_of is_digit ds) h)
-    ∙ digits_one k (b - 48) (ds ++ []) (omega arith)
-    ∙ rw (back, append-nil ds))
-    (λ (least : b ≤ 48).
-    let e : b ≡ 48 = omega arith in
-    let q : ds ≡ [] = figure_zero ds (rw e at f) in
-    rw (e, q) decimal_zero)
-    (below_or_not 48 b)
+    elim (below_or_not 48 b) [
+      | inl more ↦
+          let k : ℕ = 4 - length ds in
+          let back : 48 + (b - 48) ≡ b = omega arith in
+          ap decimal (number_next 0 b (b - 48) ds (omega arith))
+          ∙ decimal_is (number_from (b - 48) ds)
+          ∙ number_digits ds [] 5 (suc k) (b - 48) (omega arith) (omega arith) (and_right (is_digit b) (all_of is_digit ds) h)
+          ∙ digits_one k (b - 48) (ds ++ []) (omega arith)
+          ∙ rw (back, append-nil ds)
+      | inr least ↦
+          let e : b ≡ 48 = omega arith in
+          let q : ds ≡ [] = figure_zero ds (rw e at f) in
+          rw (e, q) decimal_zero
+    ]
 
 figure_below : (ds : List ℕ) → is_figure ds ≡ true → all_of is_digit ds ≡ true → number_from 0 ds < 100000
 unfolding ten_to
@@ -253,31 +251,31 @@ digits_of-bytes : (s : List ℕ) → all_of is_digit (digits_of s) ≡ true
 unfolding all_of
 digits_of-bytes [] = unfold digits_of in refl
 digits_of-bytes (b ∷ s) =
-    ⊎_elim
-    (λ (h : is_digit b ≡ true).
-    rw (digits_of_digit b s h) (and_both (is_digit b) (all_of is_digit (digits_of s)) h (digits_of-bytes s)))
-    (λ (h : is_digit b ≡ false). rw (digits_of_other b s h))
-    (by_test (is_digit b))
+    elim (by_test (is_digit b)) [
+      | inl h ↦
+          rw (digits_of_digit b s h) (and_both (is_digit b) (all_of is_digit (digits_of s)) h (digits_of-bytes s))
+      | inr h ↦ rw (digits_of_other b s h)
+    ]
 
 digits_of_rest : (s : List ℕ) → digits_of s ++ drop (length (digits_of s)) s ≡ s
 digits_of_rest [] = unfold digits_of in refl
 digits_of_rest (b ∷ s) =
-    ⊎_elim
-    (λ (h : is_digit b ≡ true). rw (digits_of_digit b s h) (ap (λ (r : List ℕ). b ∷ r) (digits_of_rest s)))
-    (λ (h : is_digit b ≡ false). rw (digits_of_other b s h))
-    (by_test (is_digit b))
+    elim (by_test (is_digit b)) [
+      | inl h ↦ rw (digits_of_digit b s h) (ap (λ (r : List ℕ). b ∷ r) (digits_of_rest s))
+      | inr h ↦ rw (digits_of_other b s h)
+    ]
 
 pub decimal_taken :
     (s : List ℕ) (f : Figured) → take_figure s ≡ some f → (s ≡ decimal f.figure ++ f.rest) × (f.figure < 100000)
 decimal_taken s f e =
-    ⊎_elim
-    (λ (h : is_figure (digits_of s) ≡ true).
-    let g = take_is s h in
-    let n : number_from 0 (digits_of s) ≡ f.figure = cc in
-    let r : drop (length (digits_of s)) s ≡ f.rest = cc in
-    let d : decimal f.figure ≡ digits_of s = ap decimal (sym n) ∙ figure_decimal (digits_of s) h (digits_of-bytes s) in
-    (rw (d, ← r) (sym (digits_of_rest s)), rw n at (figure_below (digits_of s) h (digits_of-bytes s))))
-    (λ (h : is_figure (digits_of s) ≡ false).
-    let g = take_not s h in
-    absurd (let z : ◌≡◌ {A = ℕ} 0 1 = cc in omega arith))
-    (by_test (is_figure (digits_of s)))
+    elim (by_test (is_figure (digits_of s))) [
+      | inl h ↦
+          let g = take_is s h in
+          let n : number_from 0 (digits_of s) ≡ f.figure = cc in
+          let r : drop (length (digits_of s)) s ≡ f.rest = cc in
+          let d : decimal f.figure ≡ digits_of s = ap decimal (sym n) ∙ figure_decimal (digits_of s) h (digits_of-bytes s) in
+          (rw (d, ← r) (sym (digits_of_rest s)), rw n at (figure_below (digits_of s) h (digits_of-bytes s)))
+      | inr h ↦
+          let g = take_not s h in
+          absurd cc
+    ]

@@ -4,5 +4,3 @@ pub mod Ends
 pub mod Line
 pub mod Words
 pub mod Writing
-pub mod Steps
-pub mod Straight

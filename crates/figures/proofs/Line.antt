@@ -1,20 +1,20 @@
 -- Laws of lines: a text is its lines with their line feeds, and a line put in front of a text is the first of its lines.
-use Prim.Native.Nat.{ℕ}
+use Rattle.std.specs.Prelude.{Some, None, position}
+use Rattle.std.specs.List.{position_or_len}
+use Rattle.std.proofs.lemmas.List.{take_rest}
+use Prim.Native.Nat.{ℕ, suc, ◌+◌, ◌-◌, ◌<◌, ◌≤◌}
 use mathlib.Core.Path.{◌≡◌, refl, sym, ap, ◌∙◌}
-use mathlib.Core.Logic.{⊎_elim}
+use mathlib.Core.Logic.{inl, inr}
 use mathlib.Core.Bool.{Bool, true, false, not}
 use mathlib.Core.List.{List, [], ◌∷◌, ◌++◌}
 use native.Mathlib.Omega.{arith}
+use native.Mathlib.Numerals.{add-one}
+use lib.ListN.{length, take, drop}
 use lib.Dec.{eqb}
-use borrow.Author.Tests.{eqb-true, not-true}
+use borrow.Author.Tests.{eqb-true, not-true, lt-ltb, le-ltb}
 use Rattle.common.specs.Lists.{all_of}
-use Rattle.common.proofs.Lists.{by_test, and_left, and_right, and_both}
+use Rattle.common.proofs.Lists.{by_test, and_left, and_right, and_both, below_or_not}
 use Rattle.figures.specs.Line.{Lines, left, ◌⏎◌, onto, lines_of, follows}
-
--- the lines after the first
-unfoldable pub after_first : Lines → Lines
-after_first (left s) = left s
-after_first (l ⏎ ls) = ls
 
 -- whether no byte is a line feed
 unfoldable pub one_line : List ℕ → Bool
@@ -54,17 +54,16 @@ text_feed ls = refl
 pub text_lines : (s : List ℕ) → text_of (lines_of s) ≡ s
 text_lines [] = unfold lines_of text_of in refl
 text_lines (b ∷ s) =
-    ⊎_elim
-    (λ (h : eqb b 10 ≡ true). ap text_of (lines_feed b s h) ∙ text_feed (lines_of s) ∙ rw (text_lines s, eqb-true b 10 h))
-    (λ (h : eqb b 10 ≡ false).
-    ap text_of (lines_byte b s h) ∙ text_onto b (lines_of s) ∙ ap (λ (l : List ℕ). b ∷ l) (text_lines s))
-    (by_test (eqb b 10))
+    elim (by_test (eqb b 10)) [
+      | inl h ↦ ap text_of (lines_feed b s h) ∙ text_feed (lines_of s) ∙ rw (text_lines s, eqb-true b 10 h)
+      | inr h ↦ ap text_of (lines_byte b s h) ∙ text_onto b (lines_of s) ∙ ap (λ (l : List ℕ). b ∷ l) (text_lines s)
+    ]
 
 pub follows_none : (ls : Lines) → follows ls ≡ false → ls ≡ left []
 unfolding follows
 follows_none (left []) h = refl
-follows_none (left (b ∷ s)) h = absurd (let z : ◌≡◌ {A = ℕ} 0 1 = cc in omega arith)
-follows_none (l ⏎ ls) h = absurd (let z : ◌≡◌ {A = ℕ} 0 1 = cc in omega arith)
+follows_none (left (b ∷ s)) h = absurd cc
+follows_none (l ⏎ ls) h = absurd cc
 
 -- what a first line says of the text: its bytes, the line feed, and a text whose lines are the others
 pub record First (s l : List ℕ) (ls : Lines) : Type 0 where
@@ -80,7 +79,7 @@ onto_first :
     → onto b ms ≡ l ⏎ ls
     → First (b ∷ s) l ls
 unfolding onto one_line all_of
-onto_first b s l ls (left r) e first h = absurd (let z : ◌≡◌ {A = ℕ} 0 1 = cc in omega arith)
+onto_first b s l ls (left r) e first h = absurd cc
 onto_first b s l ls (m ⏎ ns) e first h =
     let f = first m ns refl in
     let p : b ∷ m ≡ l = cc in
@@ -94,21 +93,66 @@ onto_first b s l ls (m ⏎ ns) e first h =
 
 pub first_line : (s l : List ℕ) (ls : Lines) → lines_of s ≡ l ⏎ ls → First s l ls
 unfolding one_line all_of
-first_line [] l ls h = unfold lines_of in absurd (let z : ◌≡◌ {A = ℕ} 0 1 = cc in omega arith)
+first_line [] l ls h = unfold lines_of in absurd cc
 first_line (b ∷ s) l ls h =
-    ⊎_elim
-    (λ (e : eqb b 10 ≡ true).
-    let g : [] ⏎ lines_of s ≡ l ⏎ ls = sym (lines_feed b s e) ∙ h in
-    let p : [] ≡ l = cc in
-    let q : lines_of s ≡ ls = cc in
-    let n : b ≡ 10 = eqb-true b 10 e in
-    record {
-      remains = s;
-      text = ap (λ (c : ℕ). c ∷ s) n ∙ ap (λ (r : List ℕ). r ++ (10 ∷ s)) p;
-      others = sym q;
-      alone = ap one_line (sym p);
-    })
-    (λ (e : eqb b 10 ≡ false).
-    let g : onto b (lines_of s) ≡ l ⏎ ls = sym (lines_byte b s e) ∙ h in
-    onto_first b s l ls (lines_of s) e (first_line s) g)
-    (by_test (eqb b 10))
+    elim (by_test (eqb b 10)) [
+      | inl e ↦
+          let g : [] ⏎ lines_of s ≡ l ⏎ ls = sym (lines_feed b s e) ∙ h in
+          let p : [] ≡ l = cc in
+          let q : lines_of s ≡ ls = cc in
+          let n : b ≡ 10 = eqb-true b 10 e in
+          record {
+            remains = s;
+            text = ap (λ (c : ℕ). c ∷ s) n ∙ ap (λ (r : List ℕ). r ++ (10 ∷ s)) p;
+            others = sym q;
+            alone = ap one_line (sym p);
+          }
+      | inr e ↦
+          let g : onto b (lines_of s) ≡ l ⏎ ls = sym (lines_byte b s e) ∙ h in
+          onto_first b s l ls (lines_of s) e (first_line s) g
+    ]
+
+-- the lines of a text by the position of its first line feed
+abbrev is_feed : ℕ → Bool
+is_feed b = eqb b 10
+
+feed_lines : (s : List ℕ) → position_or_len is_feed s < length s → lines_of s ≡ take (position_or_len is_feed s) s ⏎ lines_of (drop (position_or_len is_feed s + 1) s)
+unfolding onto
+feed_lines [] h = absurd (omega arith)
+feed_lines (b ∷ s) h =
+    elim (by_test (eqb b 10)) [
+      | inl e ↦ rw (e, lines_feed b s e)
+      | inr e ↦
+          let n : position_or_len is_feed (b ∷ s) ≡ suc (position_or_len is_feed s) = rw e (omega arith) in
+          let k : position_or_len is_feed s < length s = omega arith in
+          rw (n, add-one, lines_byte b s e, feed_lines s k, add-one)
+    ]
+
+no_feed : (s : List ℕ) → length s ≤ position_or_len is_feed s → lines_of s ≡ left s
+unfolding onto lines_of
+no_feed [] h = refl
+no_feed (b ∷ s) h =
+    elim (by_test (eqb b 10)) [
+      | inl e ↦ let n : position_or_len is_feed (b ∷ s) ≡ 0 = rw e in absurd (omega arith)
+      | inr e ↦
+          let n : position_or_len is_feed (b ∷ s) ≡ 1 + position_or_len is_feed s = rw e in
+          let k : length s ≤ position_or_len is_feed s = omega arith in
+          lines_byte b s e ∙ ap (onto b) (no_feed s k)
+    ]
+
+pub line_none : (s : List ℕ) → None ≡ position is_feed s → lines_of s ≡ left s
+line_none s h =
+    elim (below_or_not (position_or_len is_feed s) (length s)) [
+      | inl k ↦ absurd (let e = rw (lt-ltb _ _ k) at h in cc)
+      | inr k ↦ no_feed s k
+    ]
+
+pub line_found : (s : List ℕ) (i : ℕ) → Some i ≡ position is_feed s → (i < length s) × (lines_of s ≡ take i s ⏎ lines_of (take (length s - (i + 1)) (drop (i + 1) s)))
+line_found s i h =
+    elim (below_or_not (position_or_len is_feed s) (length s)) [
+      | inl k ↦
+          let e = rw (lt-ltb _ _ k) at h in
+          let n : i ≡ position_or_len is_feed s = cc in
+          (rw n k, rw (n, take_rest) (feed_lines s k))
+      | inr k ↦ absurd (let e = rw (le-ltb _ _ k) at h in cc)
+    ]

@@ -2,13 +2,13 @@
 use Prim.Native.Nat.{ℕ, zero, suc, ◌+◌, ◌-◌, ◌/◌, ◌%◌, ◌<◌, ◌≤◌}
 use mathlib.Core.Path.{◌≡◌, refl, sym, ap, ◌∙◌}
 use mathlib.Core.Bool.{true, false}
-use mathlib.Core.Logic.{⊎_elim}
+use mathlib.Core.Logic.{inl, inr}
 use mathlib.Core.List.{List, [], ◌∷◌, ◌++◌, append_assoc, append-nil}
-use native.Mathlib.Numerals.{add-one}
 use native.Mathlib.Omega.{arith}
-use lib.ListN.{length, get_or, take, drop, set, length-append, length-drop, length-set, take-append-drop}
-use lib.Seq.{set_split, take-suc, drop-cons, drop-drop, get_or-set_same, take-set-le, drop-set-lt, take_at, drop-append-add, length-take-le}
+use lib.ListN.{length, take, drop, set, length-append, length-drop, length-set, take-append-drop, drop_of_length-le}
+use lib.Seq.{drop-cons, drop-drop, get_or-set_same, drop-set-lt, take_at, drop-append-add, length-take-le}
 use lib.Dec.{ltb}
+use borrow.Rule.Slice.PartMut.{put_mid}
 use borrow.Author.Tests.{lt-ltb, le-ltb}
 use Rattle.common.proofs.Lists.{by_test, below_or_not}
 use Rattle.figures.specs.Figure.{digits, decimal}
@@ -42,22 +42,12 @@ module _ (s : List ℕ) where
   unfolding splice
   splice_nil at = let e : at + 0 ≡ at = omega arith in rw (e, append-nil) (take-append-drop at s)
 
-  -- one byte written
-  pub splice_one : (at b : ℕ) → at < length s → set s at b ≡ splice s at (b ∷ [])
-  unfolding splice
-  splice_one at b h =
-      let e : at + 1 ≡ suc at = add-one at in
-      set_split s at b h ∙ rw e (sym (append_assoc (take at s) (b ∷ []) (drop (suc at) s)))
-
--- the first j bytes of a word are written: one more
-pub splice_more : (s w : List ℕ) (at j : ℕ) → at + length w ≤ length s → j < length w → set (splice s at (take j w)) (at + j) (get_or w j 0) ≡ splice s at (take (j + 1) w)
-splice_more s w at j h k =
-    let l : length (take j w) ≡ j = length-take-le j w (omega arith) in
-    let n : length (splice s at (take j w)) ≡ length s = length-splice s at (take j w) (omega arith) in
-    splice_one (splice s at (take j w)) (at + j) (get_or w j 0) (omega arith)
-    ∙ ap (λ (m : ℕ). splice (splice s at (take j w)) (at + m) (get_or w j 0 ∷ [])) (sym l)
-    ∙ splice-splice s at (take j w) (get_or w j 0 ∷ []) (omega arith)
-    ∙ ap (splice s at) (sym (take-suc w j 0 k) ∙ ap (λ (m : ℕ). take m w) (sym (add-one j)))
+-- a slice of as many bytes as a word, filled with it
+pub put_splice : (s w x : List ℕ) (at n : ℕ) → x ≡ w → n ≡ length w → put_mid at n s x ≡ splice s at w
+unfolding splice
+put_splice s w x at n e h =
+    let d : drop (at + length w) s ≡ drop n (drop at s) = rw h (sym (drop-drop (length w) at s)) in
+    rw (e, d) (sym (append_assoc (take at s) w (drop n (drop at s))))
 
 -- the last k digits of n, in front of a text
 unfoldable last : ℕ → ℕ → List ℕ → List ℕ
@@ -79,15 +69,16 @@ count_more k n h = rw (le-ltb n 10 h, count)
 
 count_last : (n : ℕ) → count 1 n ≡ 1
 unfolding count
-count_last n = ⊎_elim (λ (e : ltb n 10 ≡ true). rw (e, count)) (λ (e : ltb n 10 ≡ false). rw (e, count)) (by_test (ltb n 10))
+count_last n = elim (by_test (ltb n 10)) [ inl e ↦ rw (e, count) | inr e ↦ rw (e, count) ]
 
 digits_last : (k n : ℕ) (s : List ℕ) → digits k n s ≡ last (count k n) n s
 unfolding last count digits
 digits_last zero n s = refl
 digits_last (suc k) n s =
-    ⊎_elim (λ (h : n < 10). let e : 48 + n ≡ 48 + n % 10 = omega arith in digits_one k n s h ∙ rw (count_one k n h, ← e))
-    (λ (h : 10 ≤ n). digits_more k n s h ∙ digits_last k (n / 10) ((48 + n % 10) ∷ s) ∙ rw (count_more k n h))
-    (below_or_not n 10)
+    elim (below_or_not n 10) [
+      | inl h ↦ let e : 48 + n ≡ 48 + n % 10 = omega arith in digits_one k n s h ∙ rw (count_one k n h, ← e)
+      | inr h ↦ digits_more k n s h ∙ digits_last k (n / 10) ((48 + n % 10) ∷ s) ∙ rw (count_more k n h)
+    ]
 
 length_last : (k n : ℕ) (s : List ℕ) → length (last k n s) ≡ k + length s
 unfolding last
@@ -128,20 +119,26 @@ module _ (n : ℕ) where
       ∙ ap suc (count_more 2 (n / 10 / 10) (omega arith)
       ∙ ap suc (count_more 1 (n / 10 / 10 / 10) (omega arith) ∙ ap suc (count_last (n / 10 / 10 / 10 / 10)))))
 
--- the last k digits of n stored at a position, the last first
-unfoldable pub fill : ℕ → ℕ → ℕ → List ℕ → List ℕ
-fill zero n at s = s
-fill (suc k) n at s = fill k (n / 10) at (set s (at + k) (48 + n % 10))
+pub ruleset lengths = (length_one, length_two, length_three, length_four, length_five)
 
-pub fill_step : (k n at : ℕ) (s : List ℕ) → 0 < k → fill k n at s ≡ fill (k - 1) (n / 10) at (set s (at + (k - 1)) (48 + n % 10))
-unfolding fill
-fill_step zero n at s h = absurd (omega arith)
-fill_step (suc k) n at s h = let e : suc k - 1 ≡ k = omega arith in rw e
+-- the last k digits of n stored into the first k places, the last first
+unfoldable pub fill : ℕ → ℕ → List ℕ → List ℕ
+fill zero n s = s
+fill (suc k) n s = fill k (n / 10) (set s k (48 + n % 10))
 
-pub fill_done : (k n at : ℕ) (s : List ℕ) → k ≤ 0 → fill k n at s ≡ s
+fill_first : (k n : ℕ) (s : List ℕ) → fill (suc k) n s ≡ fill k (n / 10) (set s k (48 + n % 10))
 unfolding fill
-fill_done zero n at s h = refl
-fill_done (suc k) n at s h = absurd (omega arith)
+fill_first k n s = refl
+
+pub fill_step : (i n : ℕ) (s : List ℕ) → 0 < i → fill i n s ≡ fill (i - 1) (n / 10) (set s (i - 1) (48 + n % 10))
+fill_step i n s h =
+    let e : i ≡ suc (i - 1) = omega arith in
+    ap (λ k. fill k n s) e ∙ fill_first (i - 1) n s
+
+pub fill_done : (k n : ℕ) (s : List ℕ) → k ≤ 0 → fill k n s ≡ s
+unfolding fill
+fill_done zero n s h = refl
+fill_done (suc k) n s h = absurd (omega arith)
 
 last-append : (k n : ℕ) (s : List ℕ) → last k n s ≡ last k n [] ++ s
 unfolding last
@@ -155,26 +152,29 @@ drop-set s i b h =
     let l : i < length (set s i b) = simp length-set h in
     drop-cons (set s i b) i 0 l ∙ rw (get_or-set_same s i b 0 h, drop-set-lt (suc i) s i b (omega arith))
 
-fill_last : (k n at : ℕ) (s : List ℕ) → at + k ≤ length s → fill k n at s ≡ take at s ++ (last k n [] ++ drop (at + k) s)
+fill_last : (k n : ℕ) (s : List ℕ) → k ≤ length s → fill k n s ≡ last k n [] ++ drop k s
 unfolding fill last
-fill_last zero n at s h = let e : at + 0 ≡ at = omega arith in rw e (sym (take-append-drop at s))
-fill_last (suc k) n at s h =
+fill_last zero n s h = refl
+fill_last (suc k) n s h =
     let b : ℕ = 48 + n % 10 in
-    let l : at + k ≤ length (set s (at + k) b) = simp length-set (omega arith) in
-    let i : at + k < length s = omega arith in
-    let e : at + suc k ≡ suc (at + k) = omega arith in
-    let a : at ≤ at + k = omega arith in
-    fill_last k (n / 10) at (set s (at + k) b) l
-    ∙ rw (take-set-le at s (at + k) b a, drop-set s (at + k) b i, last-append k (n / 10) (b ∷ []), e, append_assoc (last k (n / 10) []) (b ∷ []) (drop (suc (at + k)) s))
+    let l : k ≤ length (set s k b) = simp length-set (omega arith) in
+    fill_last k (n / 10) (set s k b) l
+    ∙ rw (drop-set s k b h, last-append k (n / 10) (b ∷ [])) (sym (append_assoc (last k (n / 10) []) (b ∷ []) (drop (suc k) s)))
 
 decimal_last : (n : ℕ) → decimal n ≡ last (length (decimal n)) n []
 unfolding decimal
 decimal_last n = digits_last 5 n [] ∙ ap (λ (k : ℕ). last k n []) (sym (length-decimal n))
 
--- storing a figure's digits writes the figure
-pub fill_splice : (n at : ℕ) (s : List ℕ) → at + length (decimal n) ≤ length s → fill (length (decimal n)) n at s ≡ splice s at (decimal n)
-unfolding splice
-fill_splice n at s h =
-    fill_last (length (decimal n)) n at s h
-    ∙ ap (λ (l : List ℕ). take at s ++ (l ++ drop (at + length (decimal n)) s)) (sym (decimal_last n))
-    ∙ sym (append_assoc (take at s) (decimal n) (drop (at + length (decimal n)) s))
+-- storing as many digits as a figure has writes the figure at the front
+pub fill_decimal :
+    (k n : ℕ) (s : List ℕ)
+    → k ≡ length (decimal n)
+    → length (decimal n) ≤ length s
+    → fill k n s ≡ decimal n ++ drop (length (decimal n)) s
+fill_decimal k n s e h =
+    let d : fill (length (decimal n)) n s ≡ last (length (decimal n)) n [] ++ drop (length (decimal n)) s = fill_last (length (decimal n)) n s h in
+    ap (λ k. fill k n s) e ∙ d ∙ ap (λ (l : List ℕ). l ++ drop (length (decimal n)) s) (sym (decimal_last n))
+
+-- a slice that is just filled by what is written at its front
+pub front_whole : (s w : List ℕ) → length s ≡ length w → w ++ drop (length w) s ≡ w
+front_whole s w h = ap (λ (l : List ℕ). w ++ l) (drop_of_length-le s (omega arith)) ∙ append-nil w

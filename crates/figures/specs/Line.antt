@@ -1,5 +1,5 @@
 -- Document 01, "Job text": "One bracketed form a line, ended by a line feed, the last line too."
-use Rattle.std.specs.Prelude.{ℕ, suc, ◌+◌, Bool, true, false, List, [], ◌∷◌, drop, eqb}
+use Rattle.std.specs.Prelude.{ℕ, Bool, true, false, List, [], ◌∷◌, eqb}
 
 infixr 40 ◌⏎◌
 -- the lines of a text: each line's bytes, without the line feed that ends it, and last the bytes that no line feed ends
@@ -22,12 +22,3 @@ unfoldable pub follows : Lines → Bool
 follows (left []) = false
 follows (left (b ∷ s)) = true
 follows (l ⏎ ls) = true
-
--- how many bytes stand before the first line feed; all of them where there is none
-unfoldable pub before_feed : List ℕ → ℕ
-before_feed [] = 0
-before_feed (b ∷ s) = elim (eqb b 10) [ true ↦ 0 | false ↦ suc (before_feed s) ]
-
--- the position of the first line feed at or after a position, or the position past the last byte where there is none
-unfoldable pub line_end : List ℕ → ℕ → ℕ
-line_end s at = at + before_feed (drop at s)

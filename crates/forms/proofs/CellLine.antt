@@ -1,96 +1,222 @@
--- A cell line read step by step: the first of its three forms whose steps find a line.
-use Prim.Native.Nat.{ℕ, ◌+◌, ◌<◌}
+-- A cell line read at the front of a text: the three forms begin alike, and the first whose end stands there is the line's.
+use Prim.Native.Nat.{ℕ}
+use Prim.Native.String.{String}
 use mathlib.Core.Path.{◌≡◌, refl, sym, ap, ◌∙◌}
-use mathlib.Core.Bool.{true, false}
-use mathlib.Core.Logic.{⊎_elim}
-use mathlib.Core.Option.{Option, some, none}
-use mathlib.Core.List.{List, [], ◌∷◌}
-use native.Mathlib.Omega.{arith}
-use lib.ListN.{length, drop}
-use lib.Dec.{eqb}
-use borrow.Author.Tests.{ne_eqb, eqb-true, eqb-false}
-use Rattle.common.proofs.Lists.{by_test}
+use mathlib.Core.Bool.{true}
+use mathlib.Core.Option.{Option, some, none, map}
+use mathlib.Core.List.{List, [], ◌∷◌, ◌++◌}
+use lib.ListN.{get_or}
+use Rattle.std.specs.Prelude as Std
+use Rattle.std.specs.Prelude.{Some, None}
+use Rattle.std.specs.Option.{unwrap_or}
 use Rattle.common.specs.Outcome.{done, refused}
-use Rattle.figures.specs.Line.{Lines, left, ◌⏎◌, lines_of, line_end}
-use Rattle.figures.specs.declared.Past.{Past}
-use Rattle.figures.specs.Bytes.{bytes}
-use Rattle.figures.specs.Past.{nowhere, word_past, figure_past}
+use Rattle.figures.specs.Reading.{Given}
+use Rattle.figures.specs.Bytes.{bytes, after}
+use Rattle.figures.specs.Figure.{Figured, take_figure}
+use Rattle.figures.specs.Line.{Lines, left, ◌⏎◌, lines_of}
 use Rattle.cells.specs.declared.Cell.TheVariants.{On, Yes, No}
-use Rattle.forms.specs.Template.{Template, Item, word, figure, values}
+use Rattle.forms.specs.declared.LineRead.{LineRead}
+use Rattle.forms.specs.Template.{Template, word, figure, values}
 use Rattle.forms.specs.Due.{due}
 use Rattle.forms.specs.Forms.{on_form, yes_form, no_form}
-use Rattle.forms.specs.Form.{placed, switch_of}
-use Rattle.forms.specs.Read.{capped_cell, cell_form, placed_in, cell_read_of, cell_read, read_to}
+use Rattle.forms.specs.Form.{Placed, placed, switch_of, not_due}
+use Rattle.forms.specs.Read.{cell_form, capped_cell, placed_in, placed_form, CellIs, Front, with_value, front, FormRead, read_of, PlaceRead, front_place, front_switch, front_kind, front_cell}
 use Rattle.forms.proofs.Template.{apart, on_apart, yes_apart, no_apart, due-line}
-use Rattle.forms.proofs.Steps.{steps, steps-due, steps_refused, Run, then_word, then_figure, run_steps}
+use Rattle.forms.proofs.Fronts.{front_due, front_refused}
 
--- what the three forms begin with
-pub cell_run :
-    {s : List ℕ} {at a b : ℕ} {p q : Past} {i : Item} {t : Template} {vs : List ℕ} {m : ℕ}
-    → a ≡ word_past (bytes "(cell ") s at
-    → p ≡ figure_past s a
-    → b ≡ word_past (bytes " ") s p.next
-    → q ≡ figure_past s b
-    → Run s (i ∷ t) q.next vs m
-    → Run s (word "(cell " ∷ figure ∷ word " " ∷ figure ∷ i ∷ t) at (p.value ∷ q.value ∷ vs) m
-cell_run e f g h r = then_word e (then_figure f (then_word g (then_figure h r)))
+-- a line of a template, and that the first line has no values of it
+found : (t : Template) (s : List ℕ) (x : Front) → apart t ≡ true → front t s ≡ some x → (l : List ℕ) × (lines_of s ≡ l ⏎ lines_of x.rest) × (values t l ≡ some x.vals)
+found t s x a h = due-line t 0 (lines_of s) _ (front_due t 0 s a x h)
 
-refused_none : (t : Template) (n k m : ℕ) (l : List ℕ) (ls : Lines) → due t n (l ⏎ ls) ≡ refused k m → values t l ≡ none
+missing : (t : Template) (s : List ℕ) → apart t ≡ true → front t s ≡ none → (l : List ℕ) (ls : Lines) → lines_of s ≡ l ⏎ ls → values t l ≡ none
 unfolding due
-refused_none t n k m l ls h = by (values t l) refl
+missing t s a h l ls e = by (values t l) refl
   where
     by : (o : Option (List ℕ)) → values t l ≡ o → values t l ≡ none
-    by none e = e
-    by (some vs) e = absurd (let z : ◌≡◌ {A = ℕ} 0 1 = cc (let d : due t n (l ⏎ ls) ≡ done (record { vals = vs; later = ls }) = rw (e, due) in d) in omega arith)
+    by none k = k
+    by (some vs) k =
+        let d : due t 0 (l ⏎ ls) ≡ refused 1 0 = ap (due t 0) (sym e) ∙ front_refused t 0 s a h in
+        let z : due t 0 (l ⏎ ls) ≡ done (record { vals = vs; later = ls }) = rw (k, due) in
+        absurd cc
 
-module _ (s : List ℕ) (at n : ℕ) (short : length s < nowhere) where
-  -- a line of a template, and that the line has no values of another
-  first : (t : Template) → apart t ≡ true → ((steps t s at).next ≡ nowhere → ⊥)
-      → (l : List ℕ) × (later : Lines) × (lines_of (drop at s) ≡ l ⏎ later) × (values t l ≡ some (steps t s at).vals) × ((steps t s at).next ≡ line_end s at + 1)
-  first t a h =
-      let d = steps-due t s at n a short h in
-      let l = due-line t n (lines_of (drop at s)) _ d.0 in
-      (l.0, _, l.1, l.2, d.1)
+-- the row and the column, before what a template goes on with
+unfoldable after_place : Option PlaceRead → Template → Option Front
+after_place none t = none
+after_place (some p) t = with_value p.row (with_value p.column (front t p.rest))
 
-  other : (t : Template) → apart t ≡ true → (steps t s at).next ≡ nowhere → (l : List ℕ) (later : Lines) → lines_of (drop at s) ≡ l ⏎ later → values t l ≡ none
-  other t a h l later e = refused_none t n 1 n l later (ap (due t n) (sym e) ∙ steps_refused t s at n a short h)
+place_front : (t : Template) (s : List ℕ) → front (word "(cell " ∷ figure ∷ word " " ∷ figure ∷ t) s ≡ after_place (front_place s) t
+unfolding front front_place after_place
+place_front t s = at_word (after (bytes "(cell ") s) refl
+  where
+    at_word : (o : Option (List ℕ)) → after (bytes "(cell ") s ≡ o → front (word "(cell " ∷ figure ∷ word " " ∷ figure ∷ t) s ≡ after_place (front_place s) t
+    at_word none e = rw (e, front, front_place)
+    at_word (some q) e = at_row (take_figure q) refl
+      where
+        at_row : (o : Option Figured) → take_figure q ≡ o → front (word "(cell " ∷ figure ∷ word " " ∷ figure ∷ t) s ≡ after_place (front_place s) t
+        at_row none f = rw (e, f, front, front_place)
+        at_row (some r) f = at_blank (after (bytes " ") r.rest) refl
+          where
+            at_blank : (o : Option (List ℕ)) → after (bytes " ") r.rest ≡ o → front (word "(cell " ∷ figure ∷ word " " ∷ figure ∷ t) s ≡ after_place (front_place s) t
+            at_blank none g = rw (e, f, g, front, front_place)
+            at_blank (some p) g = at_column (take_figure p) refl
+              where
+                at_column : (o : Option Figured) → take_figure p ≡ o → front (word "(cell " ∷ figure ∷ word " " ∷ figure ∷ t) s ≡ after_place (front_place s) t
+                at_column none h = rw (e, f, g, h, front, front_place)
+                at_column (some c) h = rw (e, f, g, h, front, front_place)
 
-  module _ {r c m : ℕ} (run : Run s on_form at (r ∷ c ∷ []) m) where
-    pub cell_on : (m ≡ nowhere → ⊥) → read_to (cell_form r c On) m n ≡ cell_read s at n
-    unfolding read_to cell_read cell_read_of placed_in placed capped_cell
-    cell_on h =
-        let e = run_steps run in
-        let f = first on_form on_apart (λ z. h (sym (ap (λ x. x.next) e) ∙ z)) in
-        rw (ne_eqb m nowhere h, f.2, f.3, ← f.4, e, read_to, placed)
+-- the end of a line with a switch
+switch_front : (w : String) (s : List ℕ) → front_switch (bytes w) s ≡ map (λ (x : Front). record { figure = switch_of (get_or x.vals 0 0); rest = x.rest }) (front (word w ∷ figure ∷ word "))" ∷ []) s)
+unfolding front front_switch
+switch_front w s = at_word (after (bytes w) s) refl
+  where
+    at_word : (o : Option (List ℕ)) → after (bytes w) s ≡ o → front_switch (bytes w) s ≡ map (λ (x : Front). record { figure = switch_of (get_or x.vals 0 0); rest = x.rest }) (front (word w ∷ figure ∷ word "))" ∷ []) s)
+    at_word none e = rw (e, front, front_switch)
+    at_word (some q) e = at_figure (take_figure q) refl
+      where
+        at_figure : (o : Option Figured) → take_figure q ≡ o → front_switch (bytes w) s ≡ map (λ (x : Front). record { figure = switch_of (get_or x.vals 0 0); rest = x.rest }) (front (word w ∷ figure ∷ word "))" ∷ []) s)
+        at_figure none f = rw (e, f, front, front_switch)
+        at_figure (some x) f = at_end (after (bytes "))" ++ (10 ∷ [])) x.rest) refl
+          where
+            at_end : (o : Option (List ℕ)) → after (bytes "))" ++ (10 ∷ [])) x.rest ≡ o → front_switch (bytes w) s ≡ map (λ (x : Front). record { figure = switch_of (get_or x.vals 0 0); rest = x.rest }) (front (word w ∷ figure ∷ word "))" ∷ []) s)
+            at_end none g = rw (e, f, g, front, front_switch)
+            at_end (some r) g = rw (e, f, g, front, front_switch)
 
-    module _ (on : m ≡ nowhere) {x k : ℕ} (run-yes : Run s yes_form at (r ∷ c ∷ x ∷ []) k) where
-      not_on : (l : List ℕ) (later : Lines) → lines_of (drop at s) ≡ l ⏎ later → values on_form l ≡ none
-      not_on = other on_form on_apart (ap (λ x. x.next) (run_steps run) ∙ on)
+abbrev on_end : Template
+on_end = word " (on))" ∷ []
 
-      pub cell_yes : (k ≡ nowhere → ⊥) → read_to (cell_form r c (Yes (switch_of x))) k n ≡ cell_read s at n
-      unfolding read_to cell_read cell_read_of placed_in placed capped_cell
-      cell_yes h =
-          let e = run_steps run-yes in
-          let f = first yes_form yes_apart (λ z. h (sym (ap (λ x. x.next) e) ∙ z)) in
-          rw (ne_eqb k nowhere h, f.2, not_on f.0 f.1 f.2, f.3, ← f.4, e, read_to, placed)
+abbrev yes_end : Template
+yes_end = word " (yes " ∷ figure ∷ word "))" ∷ []
 
-      module _ (yes-not : k ≡ nowhere) {y j : ℕ} (run-no : Run s no_form at (r ∷ c ∷ y ∷ []) j) where
-        not_yes : (l : List ℕ) (later : Lines) → lines_of (drop at s) ≡ l ⏎ later → values yes_form l ≡ none
-        not_yes = other yes_form yes_apart (ap (λ x. x.next) (run_steps run-yes) ∙ yes-not)
+abbrev no_end : Template
+no_end = word " (no " ∷ figure ∷ word "))" ∷ []
 
-        no_cell : (steps no_form s at).next ≡ nowhere → (ls : Lines) → lines_of (drop at s) ≡ ls → placed_in (lines_of (drop at s)) ≡ none
-        unfolding placed_in placed
-        no_cell h (left t) e = rw e
-        no_cell h (l ⏎ later) e = rw (e, not_on l later e, not_yes l later e, other no_form no_apart h l later e, placed)
+kind_on : (s : List ℕ) (x : Front) → front on_end s ≡ some x → front_kind s ≡ some (record { cell = On; rest = x.rest })
+unfolding front front_kind
+kind_on s x h = by (after (bytes " (on))" ++ (10 ∷ [])) s) refl
+  where
+    by : (o : Option (List ℕ)) → after (bytes " (on))" ++ (10 ∷ [])) s ≡ o → front_kind s ≡ some (record { cell = On; rest = x.rest })
+    by none e = let z : ◌≡◌ {A = Option Front} none (some x) = rw (e, front) at h in absurd cc
+    by (some r) e =
+        let z : ◌≡◌ {A = Option Front} (some (record { vals = []; rest = r })) (some x) = rw (e, front) at h in
+        let y : ◌≡◌ {A = Front} (record { vals = []; rest = r }) x = cc in
+        rw (e, front_kind) (ap (λ (q : Front). some (record { cell = On; rest = q.rest })) y)
 
-        pub cell_no : read_to (cell_form r c (No (switch_of y))) j n ≡ cell_read s at n
-        unfolding read_to cell_read cell_read_of placed_in placed capped_cell
-        cell_no =
-            let e = run_steps run-no in
-            ⊎_elim
-            (λ (z : eqb j nowhere ≡ true).
-            rw (z, no_cell (ap (λ x. x.next) e ∙ eqb-true j nowhere z) (lines_of (drop at s)) refl, read_to))
-            (λ (z : eqb j nowhere ≡ false).
-            let f = first no_form no_apart (λ k. eqb-false j nowhere z (sym (ap (λ x. x.next) e) ∙ k)) in
-            rw (z, f.2, not_on f.0 f.1 f.2, not_yes f.0 f.1 f.2, f.3, ← f.4, e, read_to, placed))
-            (by_test (eqb j nowhere))
+kind_other : (s : List ℕ) → front on_end s ≡ none
+    → front_kind s
+    ≡ elim (front_switch (bytes " (yes ") s) [
+      | some f ↦ some (record { cell = Yes f.figure; rest = f.rest })
+      | none ↦ map (λ (f : Figured). record { cell = No f.figure; rest = f.rest }) (front_switch (bytes " (no ") s)
+    ]
+unfolding front front_kind
+kind_other s h = by (after (bytes " (on))" ++ (10 ∷ [])) s) refl
+  where
+    by : (o : Option (List ℕ)) → after (bytes " (on))" ++ (10 ∷ [])) s ≡ o
+        → front_kind s
+        ≡ elim (front_switch (bytes " (yes ") s) [
+          | some f ↦ some (record { cell = Yes f.figure; rest = f.rest })
+          | none ↦ map (λ (f : Figured). record { cell = No f.figure; rest = f.rest }) (front_switch (bytes " (no ") s)
+        ]
+    by none e = rw (e, front_kind)
+    by (some r) e = let z : ◌≡◌ {A = Option Front} (some (record { vals = []; rest = r })) none = rw (e, front) at h in absurd cc
+
+module _ (s : List ℕ) (not_on : front on_end s ≡ none) where
+  kind_yes : (x : Front) → front yes_end s ≡ some x → front_kind s ≡ some (record { cell = Yes (switch_of (get_or x.vals 0 0)); rest = x.rest })
+  kind_yes x h = kind_other s not_on ∙ rw (switch_front " (yes " s, h)
+
+  module _ (not_yes : front yes_end s ≡ none) where
+    kind_no : (x : Front) → front no_end s ≡ some x → front_kind s ≡ some (record { cell = No (switch_of (get_or x.vals 0 0)); rest = x.rest })
+    kind_no x h = kind_other s not_on ∙ rw (switch_front " (yes " s, not_yes, switch_front " (no " s, h)
+
+    kind_none : front no_end s ≡ none → front_kind s ≡ none
+    kind_none h = kind_other s not_on ∙ rw (switch_front " (yes " s, not_yes, switch_front " (no " s, h)
+
+-- what is read of a cell line, and what the line is
+data CellRead (s : List ℕ) : Type 0 where
+  no_cell : front_cell s ≡ none → ((l : List ℕ) (ls : Lines) → lines_of s ≡ l ⏎ ls → placed l ≡ none) → CellRead s
+  a_cell : (p : Placed) (l rest : List ℕ)
+      → front_cell s ≡ some (record { form = cell_form p.row p.column (capped_cell p.cell); rest = rest })
+      → lines_of s ≡ l ⏎ lines_of rest
+      → placed l ≡ some p
+      → CellRead s
+
+module _ (s : List ℕ) where
+  -- the three forms by what follows the place
+  on_front : front on_form s ≡ after_place (front_place s) on_end
+  unfolding on_form
+  on_front = place_front on_end s
+
+  yes_front : front yes_form s ≡ after_place (front_place s) yes_end
+  unfolding yes_form
+  yes_front = place_front yes_end s
+
+  no_front : front no_form s ≡ after_place (front_place s) no_end
+  unfolding no_form
+  no_front = place_front no_end s
+
+  none_placed : front on_form s ≡ none → front yes_form s ≡ none → front no_form s ≡ none → (l : List ℕ) (ls : Lines) → lines_of s ≡ l ⏎ ls → placed l ≡ none
+  unfolding placed
+  none_placed not_on not_yes not_no l ls e =
+      rw (missing on_form s on_apart not_on l ls e, missing yes_form s yes_apart not_yes l ls e, missing no_form s no_apart not_no l ls e, placed)
+
+  by_place : (o : Option PlaceRead) → front_place s ≡ o → CellRead s
+  unfolding front_cell after_place placed capped_cell
+  by_place none e = no_cell (rw (e, front_cell)) (none_placed (on_front ∙ rw e) (yes_front ∙ rw e) (no_front ∙ rw e))
+  by_place (some p) e = by_on (front on_end p.rest) refl
+    where
+      by_on : (o : Option Front) → front on_end p.rest ≡ o → CellRead s
+      by_on (some x) h =
+          let t = found on_form s (record { vals = p.row ∷ p.column ∷ x.vals; rest = x.rest }) on_apart (on_front ∙ rw (e, after_place, h)) in
+          a_cell (record { row = p.row; column = p.column; cell = On }) t.0 x.rest (rw (e, front_cell, kind_on p.rest x h)) t.1 (rw (t.2, placed))
+      by_on none h = by_yes (front yes_end p.rest) refl
+        where
+          not_on : front on_form s ≡ none
+          not_on = on_front ∙ rw (e, after_place, h)
+
+          by_yes : (o : Option Front) → front yes_end p.rest ≡ o → CellRead s
+          by_yes (some x) k =
+              let t = found yes_form s (record { vals = p.row ∷ p.column ∷ x.vals; rest = x.rest }) yes_apart (yes_front ∙ rw (e, after_place, k)) in
+              a_cell (record { row = p.row; column = p.column; cell = Yes (get_or x.vals 0 0) }) t.0 x.rest (rw (e, front_cell, kind_yes p.rest h x k)) t.1
+              (rw (missing on_form s on_apart not_on t.0 _ t.1, t.2, placed))
+          by_yes none k = by_no (front no_end p.rest) refl
+            where
+              not_yes : front yes_form s ≡ none
+              not_yes = yes_front ∙ rw (e, after_place, k)
+
+              by_no : (o : Option Front) → front no_end p.rest ≡ o → CellRead s
+              by_no (some x) j =
+                  let t = found no_form s (record { vals = p.row ∷ p.column ∷ x.vals; rest = x.rest }) no_apart (no_front ∙ rw (e, after_place, j)) in
+                  a_cell (record { row = p.row; column = p.column; cell = No (get_or x.vals 0 0) }) t.0 x.rest (rw (e, front_cell, kind_no p.rest h k x j)) t.1
+                  (rw (missing on_form s on_apart not_on t.0 _ t.1, missing yes_form s yes_apart not_yes t.0 _ t.1, t.2, placed))
+              by_no none j =
+                  no_cell (rw (e, front_cell, kind_none p.rest h k j)) (none_placed not_on not_yes (no_front ∙ rw (e, after_place, j)))
+
+-- A reader that answers what it read, or the refusal, keeps the promise of a cell line.
+module _ (n : ℕ) (s : List ℕ) where
+  refused_is : (r : LineRead) → front_cell s ≡ none → r.form ≡ not_due n → CellIs n s r.form r.rest.now
+  unfolding placed_form placed_in
+  refused_is r h e = by (by_place s (front_place s) refl)
+    where
+      by : CellRead s → CellIs n s r.form r.rest.now
+      by (a_cell p l rest c ls k) = absurd cc
+      by (no_cell c none_there) = record { yields = e ∙ sym (ap (placed_form n) (at_lines (lines_of s) refl)); leaves = λ l ls p d k. let z = none_there l ls d in absurd cc }
+        where
+          at_lines : (ls : Lines) → lines_of s ≡ ls → placed_in (lines_of s) ≡ none
+          at_lines (left t) d = rw d
+          at_lines (l ⏎ ls) d = rw d (none_there l ls d)
+
+  read_is : (r : LineRead) → front_cell s ≡ some (read_of r) → CellIs n s r.form r.rest.now
+  unfolding placed_form placed_in
+  read_is r h = by (by_place s (front_place s) refl)
+    where
+      by : CellRead s → CellIs n s r.form r.rest.now
+      by (no_cell c none_there) = absurd cc
+      by (a_cell p l rest c ls k) =
+          let y : ◌≡◌ {A = FormRead} (record { form = cell_form p.row p.column (capped_cell p.cell); rest = rest }) (read_of r) = cc in
+          record {
+            yields = sym (ap (λ (q : FormRead). q.form) y) ∙ rw (ls, k, placed_form);
+            leaves = λ m ms q d j. let z : ms ≡ lines_of rest = cc in z ∙ ap (λ (x : FormRead). lines_of x.rest) y;
+          }
+
+  pub cell_is : (o : Std.Option LineRead) (x r : LineRead) → Given (front_cell s) read_of o → x.form ≡ not_due n → r ≡ unwrap_or o x → CellIs n s r.form r.rest.now
+  cell_is None x r h e u = rw u (refused_is x h e)
+  cell_is (Some q) x r h e u = rw u (read_is q h)

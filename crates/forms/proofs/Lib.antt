@@ -1,7 +1,6 @@
-pub mod Sorts
-pub mod Cases
-pub mod Template
 pub mod Parts
-pub mod Steps
+pub mod Template
+pub mod Fronts
 pub mod CellLine
-pub mod LineReads
+pub mod Told
+pub mod LastLine

@@ -3,7 +3,7 @@
 use Prim.Native.Nat.{ℕ, zero, suc, ◌+◌, ◌≤◌, ◌<◌}
 use Prim.Native.String.{String}
 use mathlib.Core.Path.{◌≡◌, refl, sym, ap, ◌∙◌}
-use mathlib.Core.Logic.{◌⊎◌, inl, inr, ⊎_elim}
+use mathlib.Core.Logic.{◌⊎◌, inl, inr}
 use mathlib.Core.Bool.{Bool, true, false, not, ◌&&◌}
 use mathlib.Core.Option.{Option, some, none, map}
 use mathlib.Core.List.{List, [], ◌∷◌, ◌++◌, append_assoc}
@@ -137,42 +137,40 @@ set_apart n = set_figures_apart n
 -- a label and its letter
 pub letter_label : (v : ℕ) → 1 ≤ v → v ≤ 3 → label_of (letter_of v) ≡ v
 letter_label v low high =
-    ⊎_elim
-    (λ (h : v < 2). let e : v ≡ 1 = omega arith in rw e (unfold label_of letter_of in refl))
-    (λ (k : 2 ≤ v).
-    ⊎_elim
-    (λ (h : v < 3). let e : v ≡ 2 = omega arith in rw e (unfold label_of letter_of in refl))
-    (λ (h : 3 ≤ v). let e : v ≡ 3 = omega arith in rw e (unfold label_of letter_of in refl))
-    (below_or_not v 3))
-    (below_or_not v 2)
+    elim (below_or_not v 2) [
+      | inl h ↦ let e : v ≡ 1 = omega arith in rw e (unfold label_of letter_of in refl)
+      | inr k ↦
+          elim (below_or_not v 3) [
+            | inl h ↦ let e : v ≡ 2 = omega arith in rw e (unfold label_of letter_of in refl)
+            | inr h ↦ let e : v ≡ 3 = omega arith in rw e (unfold label_of letter_of in refl)
+          ]
+    ]
 
 label_cases : (b : ℕ) → eqb (label_of b) 0 ≡ false → (b ≡ 104) ⊎ (b ≡ 118) ⊎ (b ≡ 98)
 unfolding label_of
 label_cases b h =
-    ⊎_elim
-    (λ (e : eqb b 104 ≡ true). inl (eqb-true b 104 e))
-    (λ (e : eqb b 104 ≡ false).
-    ⊎_elim
-    (λ (f : eqb b 118 ≡ true). inr (inl (eqb-true b 118 f)))
-    (λ (f : eqb b 118 ≡ false).
-    ⊎_elim
-    (λ (g : eqb b 98 ≡ true). inr (inr (eqb-true b 98 g)))
-    (λ (g : eqb b 98 ≡ false).
-    let z : label_of b ≡ 0 = rw (e, f, g, label_of) in
-    absurd (eqb-false (label_of b) 0 h z))
-    (by_test (eqb b 98)))
-    (by_test (eqb b 118)))
-    (by_test (eqb b 104))
+    elim (by_test (eqb b 104)) [
+      | inl e ↦ inl (eqb-true b 104 e)
+      | inr e ↦
+          elim (by_test (eqb b 118)) [
+            | inl f ↦ inr (inl (eqb-true b 118 f))
+            | inr f ↦
+                elim (by_test (eqb b 98)) [
+                  | inl g ↦ inr (inr (eqb-true b 98 g))
+                  | inr g ↦
+                      let z : label_of b ≡ 0 = rw (e, f, g, label_of) in
+                      absurd (eqb-false (label_of b) 0 h z)
+                ]
+          ]
+    ]
 
 pub label_letter : (b : ℕ) → eqb (label_of b) 0 ≡ false → (letter_of (label_of b) ≡ b) × (1 ≤ label_of b) × (label_of b ≤ 3)
 unfolding label_of letter_of
 label_letter b h =
-    ⊎_elim
-    (λ (e : b ≡ 104). rw e (refl, omega arith, omega arith))
-    (⊎_elim
-    (λ (e : b ≡ 118). rw e (refl, omega arith, omega arith))
-    (λ (e : b ≡ 98). rw e (refl, omega arith, omega arith)))
-    (label_cases b h)
+    elim (label_cases b h) [
+      | inl e ↦ rw e (refl, omega arith, omega arith)
+      | inr other ↦ elim other [ inl e ↦ rw e (refl, omega arith, omega arith) | inr e ↦ rw e (refl, omega arith, omega arith) ]
+    ]
 
 -- the step of a template at each item, and what its values say of that item
 pub values_word : (w : String) (t : Template) (s r : List ℕ) → after (bytes w) s ≡ some r → values (word w ∷ t) s ≡ values t r
@@ -205,7 +203,7 @@ word_from :
     (t : Template) (o : Option (List ℕ)) (vs : List ℕ)
     → ◌≡◌ {A = Option (List ℕ)} (elim o [ none ↦ none | some rest ↦ values t rest ]) (some vs)
     → (r : List ℕ) × (o ≡ some r) × (values t r ≡ some vs)
-word_from t none vs h = absurd (let z : ◌≡◌ {A = ℕ} 0 1 = cc in omega arith)
+word_from t none vs h = absurd cc
 word_from t (some r) vs h = (r, refl, h)
 
 pub word_values :
@@ -221,7 +219,7 @@ figure_from :
     (elim o [ none ↦ none | some f ↦ map (λ vs. f.figure ∷ vs) (values t f.rest) ])
     (some us)
     → (f : Figured) × (o ≡ some f) × (map (λ vs. f.figure ∷ vs) (values t f.rest) ≡ some us)
-figure_from t none us h = absurd (let z : ◌≡◌ {A = ℕ} 0 1 = cc in omega arith)
+figure_from t none us h = absurd cc
 figure_from t (some f) us h = (f, refl, h)
 
 figure_values :
@@ -248,12 +246,12 @@ more_values :
     (v : ℕ) (o : Option (List ℕ)) (us : List ℕ)
     → map (λ vs. v ∷ vs) o ≡ some us
     → (vs : List ℕ) × (o ≡ some vs) × (us ≡ v ∷ vs)
-more_values v none us h = absurd (let z : ◌≡◌ {A = ℕ} 0 1 = cc in omega arith)
+more_values v none us h = absurd cc
 more_values v (some vs) us h = (vs, refl, cc)
 
 pub parts_front : (w s : List ℕ) → parts w ≡ true → no_digit_first (w ++ s) ≡ true
 unfolding parts no_digit_first
-parts_front [] s h = absurd (let z : ◌≡◌ {A = ℕ} 0 1 = cc in omega arith)
+parts_front [] s h = absurd cc
 parts_front (b ∷ w) s h = h
 
 -- what closes a figure begins with no digit
@@ -261,8 +259,8 @@ closes_written : (t : Template) (vs : List ℕ) → closes t ≡ true → no_dig
 unfolding closes written no_digit_first
 closes_written [] vs h = refl
 closes_written (word w ∷ t) vs h = parts_front (bytes w) (written t vs) h
-closes_written (figure ∷ t) vs h = absurd (let z : ◌≡◌ {A = ℕ} 0 1 = cc in omega arith)
-closes_written (label ∷ t) vs h = absurd (let z : ◌≡◌ {A = ℕ} 0 1 = cc in omega arith)
+closes_written (figure ∷ t) vs h = absurd cc
+closes_written (label ∷ t) vs h = absurd cc
 
 -- a figure or a label in front of a line is read back
 figure_front :
@@ -302,7 +300,7 @@ values-written (label ∷ t) (v ∷ vs) a f = label_front t v vs f.0 f.1 ∙ rw 
 pub written-values : (t : Template) (l vs : List ℕ) → values t l ≡ some vs → (l ≡ written t vs) × FitsTemplate t vs
 unfolding FitsTemplate written
 written-values [] [] vs h = let e : [] ≡ vs = nothing_values vs h in rw (← e) (refl, tt)
-written-values [] (b ∷ l) vs h = unfold values in absurd (let z : ◌≡◌ {A = ℕ} 0 1 = cc in omega arith)
+written-values [] (b ∷ l) vs h = unfold values in absurd cc
 written-values (word w ∷ t) l vs h =
     let m = word_values w t l vs h in
     let k = written-values t m.0 vs m.2 in
@@ -316,18 +314,17 @@ written-values (figure ∷ t) l us h =
     rw n.2
     (d.0 ∙ ap (λ (r : List ℕ). decimal f.figure ++ r) k.0, (d.1, k.1))
 written-values (label ∷ t) [] us h =
-    let e = label_empty t in absurd (let z : ◌≡◌ {A = ℕ} 0 1 = cc in omega arith)
+    let e = label_empty t in absurd cc
 written-values (label ∷ t) (b ∷ l) us h =
-    ⊎_elim
-    (λ (z : eqb (label_of b) 0 ≡ true).
-    let e = label_none t b l z in absurd (let z : ◌≡◌ {A = ℕ} 0 1 = cc in omega arith))
-    (λ (z : eqb (label_of b) 0 ≡ false).
-    let n = more_values (label_of b) (values t l) us (sym (values_label t b l z) ∙ h) in
-    let k = written-values t l n.0 n.1 in
-    let c = label_letter b z in
-    rw n.2
-    (ap (λ (a : ℕ). a ∷ l) (sym c.0) ∙ ap (λ (r : List ℕ). letter_of (label_of b) ∷ r) k.0, (c.1, c.2, k.1)))
-    (by_test (eqb (label_of b) 0))
+    elim (by_test (eqb (label_of b) 0)) [
+      | inl z ↦ let e = label_none t b l z in absurd cc
+      | inr z ↦
+          let n = more_values (label_of b) (values t l) us (sym (values_label t b l z) ∙ h) in
+          let k = written-values t l n.0 n.1 in
+          let c = label_letter b z in
+          rw n.2
+          (ap (λ (a : ℕ). a ∷ l) (sym c.0) ∙ ap (λ (r : List ℕ). letter_of (label_of b) ∷ r) k.0, (c.1, c.2, k.1))
+    ]
 
 -- the line holds no line feed
 one_line-append : (l s : List ℕ) → one_line l ≡ true → one_line s ≡ true → one_line (l ++ s) ≡ true
@@ -380,7 +377,7 @@ due_from :
     (n : ℕ) (v : Option (List ℕ)) (ls : Lines) (o : Taken)
     → ◌≡◌ {A = Outcome Taken} (elim v [ none ↦ refused 1 n | some vs ↦ done (record { vals = vs; later = ls }) ]) (done o)
     → (v ≡ some o.vals) × (ls ≡ o.later)
-due_from n none ls o h = absurd (let z : ◌≡◌ {A = ℕ} 0 1 = cc in omega arith)
+due_from n none ls o h = absurd cc
 due_from n (some vs) ls o h =
     let e : record { vals = vs; later = ls } ≡ o = cc in
     (ap (λ (p : Taken). some p.vals) e, ap (λ (p : Taken). p.later) e)
@@ -390,7 +387,7 @@ pub due-line :
     → due t n ls ≡ done o
     → (l : List ℕ) × (ls ≡ l ⏎ o.later) × (values t l ≡ some o.vals)
 unfolding due
-due-line t n (left s) o h = absurd (let z : ◌≡◌ {A = ℕ} 0 1 = cc in omega arith)
+due-line t n (left s) o h = absurd cc
 due-line t n (l ⏎ ls) o h =
     let d = due_from n (values t l) ls o h in
     (l, ap (λ (ms : Lines). l ⏎ ms) d.1, d.0)

@@ -1,6 +1,7 @@
 -- Document 01, "Job text": "Each line yields one form, or a refusal with its number and line".
 use Rattle.std.specs.Prelude.{ℕ, true, false, List, get_or, leb}
 use Rattle.std.proofs.Math.Option.{Option, some, none}
+use Rattle.common.specs.declared.Fault.TheVariants as fault
 use Rattle.cells.specs.declared.Cell.{Cell}
 use Rattle.cells.specs.declared.Cell.TheVariants.{On, Yes, No}
 use Rattle.forms.specs.declared.Form.{Form}
@@ -57,4 +58,4 @@ size_from vs =
 
 -- ground 1: "The line is missing or not the form due."
 unfoldable pub not_due : ℕ → Form
-not_due n = form.Refused (record { number = 1; line = n })
+not_due n = form.Refused (record { fault = fault.NotDue; line = n })

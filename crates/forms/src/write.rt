@@ -1,126 +1,163 @@
-// Lines written into a buffer, part by part. Each part answers the position past it, or nowhere where it does not fit; from nowhere on
-// nothing is written.
-ghost use Rattle.std.specs.Prelude.{◌++◌, ◌∷◌, []};
+// Lines written into a buffer, one after the other from its start on.
+//
+// They are not an `impl Display` with `write!`: `write!` says which bytes it wrote where it answers Ok, but not when it answers Err, and
+// ground 14 is that the text does not fit. A Display cut into std's InlineText says its bytes and cannot fail, but 16,384 cell lines take
+// 870 microseconds that way, 285 by `write!` and 135 here.
+#![tactic(auto, using(crate::proofs::Parts::line_rules), unfolding(crate::specs::Forms::out_form, crate::specs::Forms::end_form, crate::specs::Forms::crossbar_form, crate::specs::Forms::on_form, crate::specs::Forms::yes_form, crate::specs::Forms::no_form, crate::specs::Forms::refused_form, crate::specs::Forms::rounds_form, crate::specs::Forms::reads_form, crate::specs::Template::line, crate::specs::Template::written, crate::specs::Written::parts_text, crate::specs::Written::switch_text, crate::specs::Wrote::past, figures::specs::Bytes::bytes,))]
+
+ghost use Rattle.std.specs.Prelude.{◌≡◌, ◌++◌, ◌∷◌, [], ◌≤◌, length};
 ghost use Rattle.figures.specs.Figure.{decimal};
 ghost use Rattle.forms.specs.Template.{line};
 ghost use Rattle.forms.specs.Forms.{out_form, end_form, crossbar_form, on_form, yes_form, no_form, refused_form, rounds_form, reads_form};
-ghost use Rattle.forms.specs.Written.{Written};
+ghost use Rattle.forms.specs.Written.{parts_text, switch_text};
 
-use figures::{NOWHERE, figure_length, write_figure, write_word};
+use crate::SizeForm;
+use figures::{figure_length, write_figure};
 
-// A word.
-fn put_word(out: &mut [u8], at: usize, word: &[u8]) -> usize
-    ensures { Written out.old out.new at word.now result }
-{
-    if out.len() < word.len() {
-        return NOWHERE;
+// A text that is written into a buffer from its start on: the buffer, and how many bytes are written. What is to be written next and does
+// not fit is refused by None. The row and the column of a cell's line stand side by side, as in document 01's `(cell r c ..)`.
+#[derive(Drop)]
+pub struct Writer<'a> {
+    out: &'a mut [u8],
+    pub written: usize,
+    ghost fits: { written ≤ length out.now },
+}
+
+impl<'a> Writer<'a> {
+    ghost use Rattle.forms.specs.Wrote.{Wrote};
+
+    // Nothing is written yet.
+    pub fn new(out: &'a mut [u8]) -> Writer<'a>
+        ensures same_buffer { result.out.ghost_name ≡ out.entry.ghost_name }
+        ensures kept { result.out.now ≡ out.old }
+        ensures start { result.written ≡ 0 }
+    {
+        Writer { out, written: 0 }
     }
-    if out.len() - word.len() < at {
-        return NOWHERE;
+
+    // A word.
+    fn word(&mut self, word: &[u8]) -> Option<()>
+        ensures { Wrote self.old self.new word.now result }
+    {
+        if self.out.len() - self.written < word.len() {
+            return None;
+        }
+        let end = self.written + word.len();
+        self.out[self.written..end].copy_from_slice(word);
+        self.written = end;
+        Some(())
     }
-    write_word(out, at, word)
-}
 
-// A word and the figure of a number after it.
-fn put_figure(out: &mut [u8], at: usize, word: &[u8], n: u32) -> usize
-    ensures { Written out.old out.new at (word.now ++ decimal n) result }
-{
-    let size = word.len() + figure_length(n);
-    if out.len() < size {
-        return NOWHERE;
+    // A word and the figure of a number after it.
+    fn figure(&mut self, word: &[u8], n: u32) -> Option<()>
+        ensures { Wrote self.old self.new (word.now ++ decimal n) result }
+    {
+        if self.out.len() - self.written < word.len() + figure_length(n) {
+            return None;
+        }
+        let past = self.written + word.len();
+        let end = past + figure_length(n);
+        self.out[self.written..past].copy_from_slice(word);
+        write_figure(&mut self.out[past..end], n);
+        self.written = end;
+        Some(())
     }
-    if out.len() - size < at {
-        return NOWHERE;
+
+    // A line: words with a figure after each, and the last word. Where it is called the words are known, so it is put in place there, and
+    // each is copied as so many bytes: without the hint one copy of this loop serves all lines, and writing a line takes more than three
+    // times as long.
+    #[inline(always)]
+    fn line(&mut self, parts: &[(&[u8], u32)], last: &[u8]) -> Option<()>
+        ensures { Wrote self.old self.new (parts_text parts.now last.now) result }
+    {
+        for (word, n) in parts {
+            self.figure(word, *n)?;
+        }
+        self.word(last)
     }
-    let past = write_word(out, at, word);
-    write_figure(out, past, n)
-}
 
-// `(out J I)`, and in a listing `(out J r)`
-pub fn write_out(out: &mut [u8], at: usize, j: u32, i: u32) -> usize
-    ensures { Written out.old out.new at (line out_form (j ∷ i ∷ [])) result }
-{
-    let past_j = put_figure(out, at, b"(out ", j);
-    let past_i = put_figure(out, past_j, b" ", i);
-    put_word(out, past_i, b")\n")
-}
+    // `(out J I)`, and in a listing `(out J r)`
+    pub fn out_line(&mut self, j: u32, i: u32) -> Option<()>
+        ensures { Wrote self.old self.new (line out_form (j ∷ i ∷ [])) result }
+    {
+        self.line(&[(b"(out ", j), (b" ", i)], b")\n")
+    }
 
-// `(end)`
-pub fn write_end(out: &mut [u8], at: usize) -> usize
-    ensures { Written out.old out.new at (line end_form []) result }
-{
-    put_word(out, at, b"(end)\n")
-}
+    // `(end)`
+    pub fn end_line(&mut self) -> Option<()>
+        ensures { Wrote self.old self.new (line end_form []) result }
+    {
+        self.word(b"(end)\n")
+    }
 
-// `(crossbar R C V K)`
-pub fn write_size(
-    out: &mut [u8],
-    at: usize,
-    rows: u32,
-    columns: u32,
-    switches: u32,
-    outputs: u32,
-) -> usize
-    ensures { Written out.old out.new at (line crossbar_form (rows ∷ columns ∷ switches ∷ outputs ∷ [])) result }
-{
-    let past_r = put_figure(out, at, b"(crossbar ", rows);
-    let past_c = put_figure(out, past_r, b" ", columns);
-    let past_v = put_figure(out, past_c, b" ", switches);
-    let past_k = put_figure(out, past_v, b" ", outputs);
-    put_word(out, past_k, b")\n")
-}
+    // `(crossbar R C V K)`
+    pub fn size_line(&mut self, size: SizeForm) -> Option<()>
+        ensures { Wrote self.old self.new (line crossbar_form (size.rows ∷ size.columns ∷ size.switches ∷ size.outputs ∷ [])) result }
+    {
+        let SizeForm {
+            rows,
+            columns,
+            switches,
+            outputs,
+        } = size;
+        self.line(
+            &[
+                (b"(crossbar ", rows),
+                (b" ", columns),
+                (b" ", switches),
+                (b" ", outputs),
+            ],
+            b")\n",
+        )
+    }
 
-// `(cell r c (on))`
-pub fn write_on(out: &mut [u8], at: usize, r: u32, c: u32) -> usize
-    ensures { Written out.old out.new at (line on_form (r ∷ c ∷ [])) result }
-{
-    let past_r = put_figure(out, at, b"(cell ", r);
-    let past_c = put_figure(out, past_r, b" ", c);
-    put_word(out, past_c, b" (on))\n")
-}
+    // `(cell r c (on))`
+    pub fn on_line(&mut self, r: u32, c: u32) -> Option<()>
+        ensures { Wrote self.old self.new (line on_form (r ∷ c ∷ [])) result }
+    {
+        self.line(&[(b"(cell ", r), (b" ", c)], b" (on))\n")
+    }
 
-// `(cell r c (yes x))`
-pub fn write_yes(out: &mut [u8], at: usize, r: u32, c: u32, x: u32) -> usize
-    ensures { Written out.old out.new at (line yes_form (r ∷ c ∷ x ∷ [])) result }
-{
-    let past_r = put_figure(out, at, b"(cell ", r);
-    let past_c = put_figure(out, past_r, b" ", c);
-    let past_x = put_figure(out, past_c, b" (yes ", x);
-    put_word(out, past_x, b"))\n")
-}
+    // The two lines of a switch's cell, which differ in a word.
+    #[inline(always)]
+    fn switch_line(&mut self, r: u32, c: u32, word: &[u8], x: u32) -> Option<()>
+        ensures { Wrote self.old self.new (switch_text r c word.now x) result }
+    {
+        self.line(&[(b"(cell ", r), (b" ", c), (word, x)], b"))\n")
+    }
 
-// `(cell r c (no x))`
-pub fn write_no(out: &mut [u8], at: usize, r: u32, c: u32, x: u32) -> usize
-    ensures { Written out.old out.new at (line no_form (r ∷ c ∷ x ∷ [])) result }
-{
-    let past_r = put_figure(out, at, b"(cell ", r);
-    let past_c = put_figure(out, past_r, b" ", c);
-    let past_x = put_figure(out, past_c, b" (no ", x);
-    put_word(out, past_x, b"))\n")
-}
+    // `(cell r c (yes x))`
+    pub fn yes_line(&mut self, r: u32, c: u32, x: u32) -> Option<()>
+        ensures { Wrote self.old self.new (line yes_form (r ∷ c ∷ x ∷ [])) result }
+    {
+        self.switch_line(r, c, b" (yes ", x)
+    }
 
-// `(refused n line)`
-pub fn write_refused(out: &mut [u8], at: usize, ground: u32, number: u32) -> usize
-    ensures { Written out.old out.new at (line refused_form (ground ∷ number ∷ [])) result }
-{
-    let past_ground = put_figure(out, at, b"(refused ", ground);
-    let past_number = put_figure(out, past_ground, b" ", number);
-    put_word(out, past_number, b")\n")
-}
+    // `(cell r c (no x))`
+    pub fn no_line(&mut self, r: u32, c: u32, x: u32) -> Option<()>
+        ensures { Wrote self.old self.new (line no_form (r ∷ c ∷ x ∷ [])) result }
+    {
+        self.switch_line(r, c, b" (no ", x)
+    }
 
-// `(rounds t)`
-pub fn write_rounds(out: &mut [u8], at: usize, t: u32) -> usize
-    ensures { Written out.old out.new at (line rounds_form (t ∷ [])) result }
-{
-    let past_t = put_figure(out, at, b"(rounds ", t);
-    put_word(out, past_t, b")\n")
-}
+    // `(refused n line)`
+    pub fn refused_line(&mut self, ground: u32, number: u32) -> Option<()>
+        ensures { Wrote self.old self.new (line refused_form (ground ∷ number ∷ [])) result }
+    {
+        self.line(&[(b"(refused ", ground), (b" ", number)], b")\n")
+    }
 
-// `(reads J v)`
-pub fn write_read(out: &mut [u8], at: usize, j: u32, v: u32) -> usize
-    ensures { Written out.old out.new at (line reads_form (j ∷ v ∷ [])) result }
-{
-    let past_j = put_figure(out, at, b"(reads ", j);
-    let past_v = put_figure(out, past_j, b" ", v);
-    put_word(out, past_v, b")\n")
+    // `(rounds t)`
+    pub fn rounds_line(&mut self, t: u32) -> Option<()>
+        ensures { Wrote self.old self.new (line rounds_form (t ∷ [])) result }
+    {
+        self.line(&[(b"(rounds ", t)], b")\n")
+    }
+
+    // `(reads J v)`
+    pub fn reads_line(&mut self, j: u32, v: u32) -> Option<()>
+        ensures { Wrote self.old self.new (line reads_form (j ∷ v ∷ [])) result }
+    {
+        self.line(&[(b"(reads ", j), (b" ", v)], b")\n")
+    }
 }

@@ -122,12 +122,6 @@ pub record Read (d : Diagram) : Type 0 where
   pub outs_least : 1 ≤ length d.outs
   pub outs_most : length d.outs ≤ max_outputs
 
--- the ranges of the first line's figures
-pub record HeadRanges (v n k : ℕ) : Type 0 where
-  pub switches_most : v ≤ max_switches
-  pub nodes_most : n ≤ max_nodes
-  pub outputs_most : k ≤ max_outputs
-
 -- ground 2 taken apart
 pub head_ranges :
     (v n k : ℕ) → head_fault v n k ≡ 0 → (v ≤ max_switches) × (n ≤ max_nodes) × (1 ≤ k) × (k ≤ max_outputs)

@@ -1,15 +1,8 @@
 pub mod Accepted
-pub mod Cleared
-pub mod Due
-pub mod LineLaws
 pub mod Refusals
-pub mod Ending
-pub mod Entries
-pub mod Going
-pub mod Spread
-pub mod Taken
+pub mod Steps
+pub mod Read
 pub mod Walks
-pub mod Whole
 pub mod Text
 pub mod TextTold
 pub mod TextWritten

@@ -19,7 +19,8 @@ use Rattle.diagram.specs.Diagram.{Diagram, id_count, bare, with_node, with_out}
 use Rattle.diagram.specs.Faults.{out_fault}
 use Rattle.jobs.specs.Reading.{ReadText, node_of, read_end, read_outs, read_nodes, read_one, read_head, read_text}
 use Rattle.jobs.specs.Text.{node_lines, job_text}
-use Rattle.jobs.proofs.TextWritten.{made, text_front}
+use Rattle.jobs.specs.Steps.{given}
+use Rattle.jobs.proofs.TextWritten.{text_front}
 use Rattle.diagram.proofs.Valid.{node_id}
 
 -- the last line
@@ -42,7 +43,7 @@ record OutsTold (k : ℕ) (d : Diagram) (n : ℕ) (s : List ℕ) (t : ReadText) 
   named : List ℕ
   count : length named ≡ k
   text : s ≡ out_lines (length d.outs) named ++ line end_form []
-  result : t ≡ record { diagram = made d.switches d.one d.nodes (d.outs ++ named); last = n + k }
+  result : t ≡ record { diagram = given d.switches d.one d.nodes (d.outs ++ named); last = n + k }
 
 out_turn : (d : Diagram) (j i : ℕ) → out_fault d j i ≡ 0 → j ≡ length d.outs
 unfolding out_fault
@@ -83,7 +84,7 @@ record NodesTold (m k : ℕ) (d : Diagram) (n : ℕ) (s : List ℕ) (t : ReadTex
   nodes_counted : length nodes ≡ m
   count : length named ≡ k
   text : s ≡ node_lines (id_count d) nodes ++ (out_lines (length d.outs) named ++ line end_form [])
-  result : t ≡ record { diagram = made d.switches d.one (d.nodes ++ nodes) (d.outs ++ named); last = n + m + k }
+  result : t ≡ record { diagram = given d.switches d.one (d.nodes ++ nodes) (d.outs ++ named); last = n + m + k }
 
 nodes_told :
     (m k : ℕ) (d : Diagram) (n : ℕ) (s : List ℕ) (t : ReadText) → read_nodes m k d n (lines_of s) ≡ done t → NodesTold m k d n s t
@@ -148,11 +149,11 @@ text_told s t h =
     let ns = more.nodes in
     let os = more.named in
     let sizes : vs ≡ v ∷ length ns ∷ length os ∷ [] = rw (more.nodes_counted, more.count) shape in
-    let result : t ≡ record { diagram = made v one ns os; last = 3 + length ns + length os } = rw (more.nodes_counted, more.count) more.result in
-    let text : s ≡ job_text (made v one ns os) =
+    let result : t ≡ record { diagram = given v one ns os; last = 3 + length ns + length os } = rw (more.nodes_counted, more.count) more.result in
+    let text : s ≡ job_text (given v one ns os) =
     told.1
     ∙ ap (λ (r : List ℕ). line job_form vs ++ r) (told₂.1 ∙ ap (λ (r : List ℕ). line one_form us ++ r) more.text)
     ∙ ap (λ (ws : List ℕ). line job_form ws ++ (line one_form us ++ (node_lines 2 ns ++ (out_lines 0 os ++ line end_form [])))) sizes
     ∙ ap (λ (ws : List ℕ). line job_form (v ∷ length ns ∷ length os ∷ []) ++ (line one_form ws ++ (node_lines 2 ns ++ (out_lines 0 os ++ line end_form [])))) shape₂
-    ∙ sym (text_front (made v one ns os)) in
+    ∙ sym (text_front (given v one ns os)) in
     rw result (text, refl)

@@ -25,6 +25,7 @@ use Rattle.diagram.specs.Diagram.{Diagram, terminal, entries, entry, id_count, s
 use Rattle.diagram.specs.Faults.{head_fault, one_fault, unordered, same_test, alike, node_fault, out_fault}
 use Rattle.diagram.specs.Facts.{Facts, NodeFacts}
 use Rattle.jobs.specs.Reading.{node_of, read_end, read_outs, read_nodes, read_one, read_head, read_text}
+use Rattle.jobs.specs.Steps.{given}
 use Rattle.jobs.specs.Text.{node_lines, job_text, HeadSizes}
 use Rattle.diagram.proofs.Tables.{any_of_by}
 
@@ -33,17 +34,13 @@ limits_fit : (max_switches < 100000) × (2 + max_nodes < 100000) × (max_outputs
 unfolding max_switches max_nodes max_outputs
 limits_fit = (omega arith, omega arith, omega arith)
 
--- a diagram by its parts
-abbrev pub made : ℕ → ℕ → List Node → List ℕ → Diagram
-made v t ns os = record { switches = v; one = t; nodes = ns; outs = os }
-
 -- the entries of the ids before a node are those of the whole diagram, and the node has the next id
 module _ (v t : ℕ) (ns : List Node) (n : Node) (rest : List Node) (os : List ℕ) where
   abbrev whole : Diagram
-  whole = made v t (ns ++ (n ∷ rest)) os
+  whole = given v t (ns ++ (n ∷ rest)) os
 
   abbrev before : Diagram
-  before = made v t ns []
+  before = given v t ns []
 
   entry_before : (k : ℕ) → k < 2 + length ns → entry whole k ≡ entry before k
   unfolding entry entries
@@ -144,19 +141,19 @@ module _ (v t : ℕ) (ns : List Node) (n : Node) (rest : List Node) (os : List �
         in_turn = unfold id_count in rw (eq-eqb (2 + length ns) (2 + length ns) refl)
 
 -- the lines of the nodes
-module _ (v t : ℕ) (all : List Node) (os : List ℕ) (facts : Facts (made v t all os)) (few : v < 100000) (short : 2 + length all < 100000) where
+module _ (v t : ℕ) (all : List Node) (os : List ℕ) (facts : Facts (given v t all os)) (few : v < 100000) (short : 2 + length all < 100000) where
   nodes_read :
       (rest ns : List Node) (k n : ℕ) (s : List ℕ)
       → ns ++ rest ≡ all
-      → read_nodes (length rest) k (made v t ns []) n (lines_of (node_lines (2 + length ns) rest ++ s))
-      ≡ read_outs k (made v t all []) (n + length rest) (lines_of s)
+      → read_nodes (length rest) k (given v t ns []) n (lines_of (node_lines (2 + length ns) rest ++ s))
+      ≡ read_outs k (given v t all []) (n + length rest) (lines_of s)
   unfolding read_nodes node_lines node_of with_node
   nodes_read [] ns k n s e =
       let same : ns ≡ all = sym (append-nil ns) ∙ e in
       let line-is : n + 0 ≡ n = omega arith in
       rw (line-is, same)
   nodes_read (m ∷ rest) ns k n s e =
-      let known : Facts (made v t (ns ++ (m ∷ rest)) os) = rw e facts in
+      let known : Facts (given v t (ns ++ (m ∷ rest)) os) = rw e facts in
       let f = next_facts v t ns m rest os known in
       let long : length all ≡ length ns + suc (length rest) = rw (← e) (simp length-append) in
       let next : 2 + length (ns ++ (m ∷ [])) ≡ suc (2 + length ns) = simp length-append (omega arith) in
@@ -187,43 +184,43 @@ out_right d i named in_row =
     rw (eq-eqb (length d.outs) (length d.outs) refl, lt-ltb i (id_count d) named, ne_eqb (label_at d i) label_v in_row)
 
 -- the lines of the outputs and the last line
-module _ (v t : ℕ) (ns : List Node) (all : List ℕ) (facts : Facts (made v t ns all)) (few : 2 + length ns < 100000) (short : length all < 100000) where
+module _ (v t : ℕ) (ns : List Node) (all : List ℕ) (facts : Facts (given v t ns all)) (few : 2 + length ns < 100000) (short : length all < 100000) where
   out_named : (j : ℕ) → j < length all → (i : ℕ) → get_or all j 0 ≡ i → i < 2 + length ns
   unfolding id_count
   out_named j below i at = rw (← at) (facts.outs_named j below)
 
-  out_in_row : (j : ℕ) → j < length all → (i : ℕ) → get_or all j 0 ≡ i → (os : List ℕ) → label_at (made v t ns os) i ≡ label_v → ⊥
+  out_in_row : (j : ℕ) → j < length all → (i : ℕ) → get_or all j 0 ≡ i → (os : List ℕ) → label_at (given v t ns os) i ≡ label_v → ⊥
   unfolding entry entries
   out_in_row j below i at os = rw (← at) (facts.outs_in_rows j below)
 
-  counted : (os : List ℕ) (i : ℕ) → i < 2 + length ns → i < id_count (made v t ns os)
+  counted : (os : List ℕ) (i : ℕ) → i < 2 + length ns → i < id_count (given v t ns os)
   unfolding id_count
   counted os i h = h
 
   outs_read :
       (is os : List ℕ) (n : ℕ)
       → os ++ is ≡ all
-      → read_outs (length is) (made v t ns os) n (lines_of (out_lines (length os) is ++ line end_form []))
-      ≡ done (record { diagram = made v t ns all; last = n + length is })
+      → read_outs (length is) (given v t ns os) n (lines_of (out_lines (length os) is ++ line end_form []))
+      ≡ done (record { diagram = given v t ns all; last = n + length is })
   unfolding read_outs out_lines with_out
   outs_read [] os n e =
       let same : os ≡ all = sym (append-nil os) ∙ e in
       let line-is : n + 0 ≡ n = omega arith in
-      rw (line-is, same) (end_read (made v t ns all) n)
+      rw (line-is, same) (end_read (given v t ns all) n)
   outs_read (i ∷ is) os n e =
       let j = length os in
       let long : length all ≡ length os + suc (length is) = rw (← e) (simp length-append) in
       let seam : j + 0 ≡ j = omega arith in
       let at : get_or all j 0 ≡ i = rw (← e) (rw seam at (get_or-append-add os (i ∷ is) 0 0)) in
       let named : i < 2 + length ns = out_named j (omega arith) i at in
-      let in_row : label_at (made v t ns os) i ≡ label_v → ⊥ = out_in_row j (omega arith) i at os in
+      let in_row : label_at (given v t ns os) i ≡ label_v → ⊥ = out_in_row j (omega arith) i at os in
       let next : length (os ++ (i ∷ [])) ≡ suc j = simp length-append (omega arith) in
       let joined : (os ++ (i ∷ [])) ++ is ≡ all = append_assoc os (i ∷ []) is ∙ e in
       let line-is : n + 1 + length is ≡ n + suc (length is) = omega arith in
       let fits = out_fits j i (omega arith) (omega arith) in
       rw (append_assoc (line out_form (j ∷ i ∷ [])) (out_lines (suc j) is) (line end_form []))
       (then_is _ _ _ (due-written out_form (j ∷ i ∷ []) n (out_lines (suc j) is ++ line end_form []) out_apart fits)
-      ∙ unless_none _ n _ (out_right (made v t ns os) i (counted os i named) in_row)
+      ∙ unless_none _ n _ (out_right (given v t ns os) i (counted os i named) in_row)
       ∙ (rw (next, line-is) at (outs_read is (os ++ (i ∷ [])) (n + 1) joined)))
 
 -- the first line and the second

@@ -1,13 +1,13 @@
--- What is handed over for an outcome: the job record, and walk's answer.
-use Rattle.std.specs.Prelude.{ℕ, length}
-use Rattle.common.specs.Limits.{max_outputs}
-use Rattle.common.specs.Lists.{zeros, padded}
-use Rattle.common.specs.Outcome.{Outcome, refusal_of, value_of}
-use Rattle.diagram.specs.Diagram.{Diagram}
+-- What is handed over for an accepted job: its record.
+use Rattle.std.specs.Prelude.{◌-◌, ◌≤◌, ◌≡◌, List, ◌++◌, length, take, replicate}
+use Rattle.common.specs.Limits.{max_nodes, max_outputs}
+use Rattle.common.specs.Lists.{padded}
+use Rattle.common.specs.Outcome.{Outcome}
+use Rattle.diagram.specs.declared.Node.{Node}
+use Rattle.diagram.specs.Diagram.{Diagram, no_node}
 use Rattle.diagram.specs.Wires.{row_count, column_count}
 use Rattle.jobs.specs.declared.Job.{Job}
-use Rattle.jobs.specs.declared.JobRead.{JobRead}
-use Rattle.jobs.specs.declared.Walked.{Walked}
+use Rattle.jobs.specs.Job.{table}
 
 -- the record of a diagram: V, the label of terminal 1, N, K, and the ids that the outputs name, zeros past them; R and C
 unfoldable pub job_of : Diagram → Job
@@ -22,14 +22,7 @@ job_of d =
       columns = column_count d;
     }
 
--- "0 as .. field of a record"
-unfoldable pub no_job : Job
-no_job = record { switches = 0; one = 0; nodes = 0; outputs = 0; outs = zeros max_outputs; rows = 0; columns = 0 }
-
--- the reader's answer
-unfoldable pub job_read : Outcome Diagram → JobRead
-job_read o = record { refusal = refusal_of o; job = value_of no_job job_of o }
-
--- walk's answer
-unfoldable pub walked : Outcome ℕ → Walked
-walked o = record { refusal = refusal_of o; value = value_of 0 (λ v. v) o }
+-- the first N entries of a lent table are the nodes that the table of an accepted job begins with; zeros follow them there
+pub record Filled (o : Outcome Diagram) (nodes : List Node) (job : Job) : Type 0 where
+  pub few : job.nodes ≤ max_nodes
+  pub front : table o ≡ take job.nodes nodes ++ replicate (max_nodes - job.nodes) no_node

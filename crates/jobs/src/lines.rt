@@ -1,196 +1,75 @@
-// Document 01, "Job text": each kind of line: "a line that is not the form due stops the reading". A step answers the refusal, or
-// number 0, the line's values and the position past it.
-ghost use Rattle.std.specs.Prelude.{◌≡◌, [], ◌+◌, ◌≤◌};
-ghost use Rattle.common.specs.Limits.{max_switches, max_nodes, max_outputs};
-ghost use Rattle.common.specs.Lists.{zeros};
-ghost use Rattle.diagram.specs.Seen.{Marked};
-ghost use Rattle.diagram.specs.Table.{entry_in, tabled, Terminals};
-ghost use Rattle.jobs.specs.LineSteps.{head_line, one_line, node_line, out_line, last_line};
+// Document 01, "Job text": each kind of line: "a line that is not the form due stops the reading". A step takes what is left of the text, the
+// line due first, and that line's number. It answers the refusal, or what the line says and what is left of the text after it.
+// Each kind has its own step, since document 01 asks for `let Form::.. = .. else` at each line.
+ghost use Rattle.std.specs.Prelude.{ℕ, suc, ◌+◌, ◌≤◌, [], IfOk};
+ghost use Rattle.common.specs.Fault.{Goes};
+ghost use Rattle.common.specs.Limits.{max_switches};
+ghost use Rattle.figures.specs.Line.{lines_of};
+ghost use Rattle.diagram.specs.Diagram.{bare, with_node, with_out};
+ghost use Rattle.diagram.specs.Held.{held};
+ghost use Rattle.jobs.specs.Reading.{read_outs, read_nodes, read_one, read_head};
+ghost use Rattle.jobs.specs.Steps.{HeadRanges};
 
-use crate::{HeadLine, NodeLine, OneLine, OutLine};
 use common::Refusal;
-use diagram::seen::SEEN;
-use diagram::table::TABLE;
-use diagram::{NodeValues, faults};
-use forms::Form;
-
-// The answer for a first line with a refusal.
-fn no_head(refusal: Refusal) -> HeadLine
-    ensures { result ≡ record { refusal = refusal; switches = 0; nodes = 0; outputs = 0; next = 0 } }
-{
-    HeadLine {
-        refusal,
-        switches: 0,
-        nodes: 0,
-        outputs: 0,
-        next: 0,
-    }
-}
+use diagram::faults::Earlier;
+use diagram::{Diagram, Node, faults};
+use forms::{Form, JobForm};
 
 // The first line, `(job V N K)`: grounds 1 and 2.
-pub fn head_line(text: &[u8], line: u32) -> HeadLine
-    ensures { result ≡ head_line text.now 0 line }
+pub fn head_line<'a>(text: &'a [u8], line: u32) -> Result<(JobForm, &'a [u8]), Refusal>
+    ensures goes { Goes (read_head line (lines_of text.now)) result (λ o. read_one o.0.switches o.0.nodes o.0.outputs (line + 1) (lines_of o.1.now)) }
+    ensures sized { IfOk result (λ o. HeadRanges o.0.switches o.0.nodes o.0.outputs) }
 {
-    let read = forms::job_line(text, 0, line);
-    let form = read.form;
-    let Form::Job(f) = form else {
-        return no_head(forms::refusal_of(form));
+    let read = forms::job_line(text, line);
+    let Form::Job(f) = read.form else {
+        return Err(forms::refusal_of(read.form, line));
     };
-    let number = faults::head_fault(f.switches, f.nodes, f.outputs);
-    if number != 0 {
-        return no_head(Refusal { number, line });
-    }
-    HeadLine {
-        refusal: Refusal { number: 0, line: 0 },
-        switches: f.switches as u16,
-        nodes: f.nodes as u16,
-        outputs: f.outputs as u16,
-        next: read.next,
-    }
-}
-
-// The answer for the line `(one T)` with a refusal.
-fn no_one(refusal: Refusal) -> OneLine
-    ensures { result ≡ record { refusal = refusal; one = 0; next = 0 } }
-{
-    OneLine {
-        refusal,
-        one: 0,
-        next: 0,
-    }
+    faults::head_fault(f.switches, f.nodes, f.outputs).map_err(|fault| fault.at(line))?;
+    Ok((f, read.rest))
 }
 
 // The line `(one T)`: grounds 1 and 9.
-pub fn one_line(text: &[u8], at: usize, line: u32) -> OneLine
-    ensures { result ≡ one_line text.now at line }
+pub fn one_line<'a>(text: &'a [u8], line: u32) -> Result<(u16, &'a [u8]), Refusal>
+    ensures { (v m k : ℕ) → Goes (read_one v m k line (lines_of text.now)) result (λ o. read_nodes m k (bare v o.0) (line + 1) (lines_of o.1.now)) }
 {
-    let read = forms::one_line(text, at, line);
-    let form = read.form;
-    let Form::One(t) = form else {
-        return no_one(forms::refusal_of(form));
+    let read = forms::one_line(text, line);
+    let Form::One(one) = read.form else {
+        return Err(forms::refusal_of(read.form, line));
     };
-    let one = t as u16;
-    let number = faults::one_fault(one);
-    if number != 0 {
-        return no_one(Refusal { number, line });
-    }
-    OneLine {
-        refusal: Refusal { number: 0, line: 0 },
-        one,
-        next: read.next,
-    }
+    faults::one_fault(one).map_err(|fault| fault.at(line))?;
+    Ok((one, read.rest))
 }
 
-// The answer for a node's line with a refusal.
-fn no_node(refusal: Refusal) -> NodeLine
-    ensures { result ≡ record { refusal = refusal; x = 0; l = 0; h = 0; t = 0; next = 0 } }
-{
-    NodeLine {
-        refusal,
-        x: 0,
-        l: 0,
-        h: 0,
-        t: 0,
-        next: 0,
-    }
-}
-
-// A line `(node I X (L H) T)` after n nodes, which the table holds: grounds 1 and 3 to 9.
-pub fn node_line(
-    text: &[u8],
-    at: usize,
+// A line `(node I X (L H) T)` after those of the earlier nodes: grounds 1 and 3 to 9.
+pub fn node_line<'a>(
+    text: &'a [u8],
     line: u32,
-    n: usize,
-    table: &[u16; TABLE],
-    seen: &[u8; SEEN],
-) -> NodeLine
-    requires n_le_max_nodes { (n ≤ max_nodes) × ((entry_in table.now 0).x ≤ max_switches) }
-    requires terminals { Terminals table.now }
-    requires marked { Marked seen.now (tabled table.now n []).nodes }
-    ensures { result ≡ node_line text.now at line (tabled table.now n []) }
+    earlier: Earlier,
+) -> Result<(Node, &'a [u8]), Refusal>
+    requires { earlier.diagram.switches ≤ max_switches }
+    ensures { (m k : ℕ) → Goes (read_nodes (suc m) k (held earlier.entry.diagram []) line (lines_of text.now)) result (λ o. read_nodes m k (with_node (held earlier.entry.diagram []) o.0) (line + 1) (lines_of o.1.now)) }
 {
-    let read = forms::node_line(text, at, line);
-    let form = read.form;
-    let Form::Node(f) = form else {
-        return no_node(forms::refusal_of(form));
+    let read = forms::node_line(text, line);
+    let Form::Node(f) = read.form else {
+        return Err(forms::refusal_of(read.form, line));
     };
-    let t = f.t as u16;
-    let values = NodeValues {
-        id: f.id,
-        x: f.x,
-        l: f.l,
-        h: f.h,
-        t,
-    };
-    let number = faults::node_fault(table, seen, n, values);
-    if number != 0 {
-        return no_node(Refusal { number, line });
-    }
-    NodeLine {
-        refusal: Refusal { number: 0, line: 0 },
-        x: f.x as u16,
-        l: f.l as u16,
-        h: f.h as u16,
-        t,
-        next: read.next,
-    }
+    earlier.node_fault(f).map_err(|fault| fault.at(line))?;
+    Ok((Node::given(f), read.rest))
 }
 
-// The answer for an output's line with a refusal.
-fn no_out(refusal: Refusal) -> OutLine
-    ensures { result ≡ record { refusal = refusal; target = 0; next = 0 } }
-{
-    OutLine {
-        refusal,
-        target: 0,
-        next: 0,
-    }
-}
-
-// A line `(out J I)` after n nodes, which the table holds, and k outputs: grounds 1, 3, 5 and 9.
-pub fn out_line(
-    text: &[u8],
-    at: usize,
+// A line `(out J I)` after the lines of the nodes and of the earlier outputs: grounds 1, 3, 5 and 9.
+pub fn out_line<'a>(
+    text: &'a [u8],
     line: u32,
-    n: usize,
-    k: usize,
-    table: &[u16; TABLE],
-) -> OutLine
-    requires n_le_max_nodes { n ≤ max_nodes }
-    requires terminals { Terminals table.now }
-    ensures { result ≡ out_line text.now at line (tabled table.now n (zeros k)) }
+    diagram: &Diagram,
+    outs: &[u16],
+) -> Result<(u16, &'a [u8]), Refusal>
+    ensures { (m : ℕ) → Goes (read_outs (suc m) (held diagram.now outs.now) line (lines_of text.now)) result (λ o. read_outs m (with_out (held diagram.now outs.now) o.0) (line + 1) (lines_of o.1.now)) }
 {
-    let read = forms::out_line(text, at, line);
-    let form = read.form;
-    let Form::Out(f) = form else {
-        return no_out(forms::refusal_of(form));
+    let read = forms::out_line(text, line);
+    let Form::Out(f) = read.form else {
+        return Err(forms::refusal_of(read.form, line));
     };
-    let number = faults::out_fault(table, n, k, f.number, f.target);
-    if number != 0 {
-        return no_out(Refusal { number, line });
-    }
-    OutLine {
-        refusal: Refusal { number: 0, line: 0 },
-        target: f.target as u16,
-        next: read.next,
-    }
-}
-
-// The line `(end)`: grounds 1 and 10.
-pub fn end_line(text: &[u8], at: usize, line: u32) -> Refusal
-    requires { line ≤ 3 + max_nodes + max_outputs }
-    ensures { result ≡ last_line text.now at line }
-{
-    let read = forms::end_line(text, at, line);
-    let form = read.form;
-    let Form::End = form else {
-        return forms::refusal_of(form);
-    };
-    if read.next < text.len() {
-        return Refusal {
-            number: 10,
-            line: line + 1,
-        };
-    }
-    Refusal { number: 0, line: 0 }
+    faults::out_fault(diagram, outs, f.number, f.target).map_err(|fault| fault.at(line))?;
+    Ok((f.target as u16, read.rest))
 }

@@ -1,243 +1,141 @@
-// Document 01, "Job text": the lines of a job in turn. "Text is read line by line; the first faulty line decides". What the tests of later
-// lines look up is in a flat table, and the places of its nodes are marked.
-ghost use Rattle.std.specs.Prelude.{◌≡◌, [], ◌+◌, ◌≤◌, drop, take};
-ghost use Rattle.common.specs.Limits.{max_nodes, max_outputs};
-ghost use Rattle.common.specs.Lists.{zeros};
+// Document 01, "Job text": the lines of a job in turn. "Text is read line by line; the first faulty line decides". "The reader fills a lent table of
+// nodes, one entry a line".
+#![tactic(auto, unfolding(common::specs::Limits::max_switches, common::specs::Limits::max_nodes, common::specs::Limits::max_outputs, diagram::specs::Diagram::no_node))]
+
+ghost use Rattle.std.specs.Prelude.{◌≡◌, ℕ, ◌+◌, ◌-◌, ◌≤◌, ◌<◌, [], ◌++◌, IfOk, length, set, take, replicate};
+ghost use Rattle.common.specs.Limits.{max_switches, max_nodes, max_outputs};
+ghost use Rattle.common.specs.Fault.{handed, Goes};
 ghost use Rattle.figures.specs.Line.{lines_of};
-ghost use Rattle.diagram.specs.Table.{table_length, tabled, Terminals};
-ghost use Rattle.diagram.specs.Seen.{max_seen};
-ghost use Rattle.jobs.specs.Answer.{no_job, job_read};
-ghost use Rattle.jobs.specs.Job.{size_tested};
-ghost use Rattle.jobs.specs.Reading.{read_end, read_outs};
-ghost use Rattle.jobs.specs.LineSteps.{unless_refused};
-ghost use Rattle.jobs.specs.Progress.{stopped_at, opening_read, Bounded, Ready, NodeTaken, Started, Padded, OutsOf};
+ghost use Rattle.diagram.specs.Diagram.{bare, no_node};
+ghost use Rattle.jobs.specs.Answer.{job_of, Filled};
+ghost use Rattle.diagram.specs.Held.{held};
+ghost use Rattle.jobs.specs.Job.{accepted, table};
+ghost use Rattle.jobs.specs.Reading.{read_end, read_outs, read_nodes};
+ghost use Rattle.jobs.specs.Steps.{given};
 
-use crate::{Job, JobRead, OutsRead, Progress, lines};
-use common::{MAX_OUTPUTS, Refusal};
-use diagram::seen::SEEN;
-use diagram::table::TABLE;
-use diagram::{Node, seen, table, wires};
+use crate::{Job, lines};
+use common::{Fault, MAX_OUTPUTS, Refusal};
+use diagram::faults::Earlier;
+use diagram::seen::Seen;
+use diagram::{Diagram, Node, wires};
+use forms::last::last_line;
 
-// Where the reader stands after a refusal.
-fn stopped(refusal: Refusal) -> Progress
-    ensures { result ≡ stopped_at refusal }
+// Writes one entry of a lent table; nothing else puts a node there.
+fn put(nodes: &mut [Node], k: usize, node: Node)
+    requires { k < length nodes.old }
+    ensures { nodes.new ≡ set nodes.old k node }
 {
-    Progress {
-        refusal,
-        switches: 0,
-        one: 0,
-        nodes: 0,
-        outputs: 0,
-        count: 0,
-        line: 0,
-        next: 0,
-        found: false,
-        node: Node {
-            x: 0,
-            l: 0,
-            h: 0,
-            t: 0,
-        },
-    }
+    nodes[k] = node;
 }
 
-// The first two lines.
-fn read_opening(text: &[u8]) -> Progress
-    ensures { result ≡ opening_read text.now }
+// Puts zeros into the entries from `from` on. It stands alone: within the reader the check does not find what the table holds after a write to a
+// part of it.
+fn clear(nodes: &mut [Node], from: usize)
+    requires { from ≤ length nodes.old }
+    ensures { nodes.new ≡ take from nodes.old ++ replicate (length nodes.old - from) no_node }
 {
-    let mut line: u32 = 1;
-    let head = lines::head_line(text, line);
-    let first = head.refusal;
-    if first.number != 0 {
-        return stopped(first);
-    }
-    line += 1;
-    let one = lines::one_line(text, head.next, line);
-    let second = one.refusal;
-    if second.number != 0 {
-        return stopped(second);
-    }
-    Progress {
-        refusal: second,
-        switches: head.switches,
-        one: one.one,
-        nodes: head.nodes,
-        outputs: head.outputs,
-        count: 0,
-        line: line + 1,
-        next: one.next,
-        found: false,
-        node: Node {
-            x: 0,
-            l: 0,
-            h: 0,
-            t: 0,
-        },
-    }
+    nodes[from..].fill(Node::default());
 }
 
-// The next node's line, if one is due: where the reader stands after it. The table holds the node then, and its place is marked.
-pub fn next_node(
-    text: &[u8],
-    p: Progress,
-    table: &mut [u16; TABLE],
-    seen: &mut [u8; SEEN],
-) -> Progress
-    requires { Ready p table.old seen.old }
-    ensures { NodeTaken text.now p table.old result table.new seen.new }
-{
-    let mut after = p;
-    after.found = false;
-    if p.nodes as usize <= p.count {
-        return after;
-    }
-    let r = lines::node_line(text, p.next, p.line, p.count, table, seen);
-    let refusal = r.refusal;
-    if refusal.number != 0 {
-        return stopped(refusal);
-    }
-    let node = Node {
-        x: r.x,
-        l: r.l,
-        h: r.h,
-        t: r.t,
-    };
-    table::put_entry(table, p.count + 2, node);
-    seen::mark(seen, node);
-    after.count = p.count + 1;
-    after.line = p.line + 1;
-    after.next = r.next;
-    after.found = true;
-    after.node = node;
-    after
-}
-
-// The first two lines, and the first node's line, if one is due.
-pub fn first_node(text: &[u8], table: &mut [u16; TABLE], seen: &mut [u8; SEEN]) -> Progress
-    requires { (table.old ≡ zeros table_length) × (seen.old ≡ zeros max_seen) }
-    ensures { Started text.now result table.new seen.new }
-{
-    let p = read_opening(text);
-    table::open(table, p.switches, p.one);
-    next_node(text, p, table, seen)
-}
-
-// Whether the last step found a node, and which.
-pub fn found(p: Progress) -> bool
-    ensures { result ≡ p.found }
-{
-    p.found
-}
-
-pub fn node(p: Progress) -> Node
-    ensures { result ≡ p.node }
-{
-    p.node
-}
-
-// The k lines of the outputs from a position on, of which the first has the number `line`, after n nodes.
-fn read_outs(
-    text: &[u8],
-    at: usize,
+// The lines of the nodes, of which the first has the number `line`: each node on the entry of its line.
+fn read_nodes<'a>(
+    text: &'a [u8],
     line: u32,
-    n: usize,
-    k: usize,
-    table: &[u16; TABLE],
-) -> OutsRead
-    requires { (n ≤ max_nodes) × (k ≤ max_outputs) × (line ≤ n + 3) × (Terminals table.now) }
-    ensures { OutsOf text.now at line n k table.now result }
+    switches: u16,
+    one: u16,
+    nodes: &mut [Node],
+) -> Result<&'a [u8], Refusal>
+    requires { (line ≤ 3) × (switches ≤ max_switches) × (length nodes.old ≤ max_nodes) }
+    ensures { (k : ℕ) → Goes (read_nodes (length nodes.old) k (bare switches one) line (lines_of text.now)) result (λ o. read_outs k (given switches one nodes.new []) (line + length nodes.old) (lines_of o.now)) }
 {
-    let mut outs = [0u16; MAX_OUTPUTS];
-    let mut next = at;
-    let mut j: usize = 0;
-    while j < k {
-        let r = lines::out_line(text, next, line + j as u32, n, j, table);
-        let refusal = r.refusal;
-        if refusal.number != 0 {
-            return OutsRead {
-                refusal,
-                outs,
-                next,
-            };
-        }
-        outs[j] = r.target;
-        next = r.next;
-        j += 1;
+    let mut seen = Seen::new();
+    let mut rest = text;
+    for k in 0..nodes.len() {
+        let diagram = Diagram {
+            switches,
+            one,
+            nodes: &nodes[..k],
+        };
+        let earlier = Earlier {
+            diagram,
+            seen: &seen,
+        };
+        let (node, after) = lines::node_line(rest, line + k as u32, earlier)?;
+        put(nodes, k, node);
+        seen.mark(node);
+        rest = after;
     }
-    OutsRead {
-        refusal: Refusal { number: 0, line: 0 },
-        outs,
-        next,
-    }
+    Ok(rest)
 }
 
-// The answer for a refused job: zeros in every field.
-fn no_job(refusal: Refusal) -> JobRead
-    ensures { result ≡ record { refusal = refusal; job = no_job } }
+// The lines of the outputs, of which the first has the number `line`: the id that each names. One function for this loop and that over the
+// nodes would be no plainer: its step would be a closure that marks each node beside what it answers.
+fn read_outs<'a>(
+    text: &'a [u8],
+    line: u32,
+    diagram: &Diagram,
+    outs: &mut [u16],
+) -> Result<&'a [u8], Refusal>
+    requires { (line ≤ 3 + max_nodes) × (length outs.old ≤ max_outputs) }
+    ensures { Goes (read_outs (length outs.old) (held diagram.now []) line (lines_of text.now)) result (λ o. read_end (held diagram.now outs.new) (line + length outs.old) (lines_of o.now)) }
 {
-    JobRead {
-        refusal,
-        job: Job {
-            switches: 0,
-            one: 0,
-            nodes: 0,
-            outputs: 0,
-            outs: [0; MAX_OUTPUTS],
-            rows: 0,
-            columns: 0,
-        },
+    let mut rest = text;
+    for j in 0..outs.len() {
+        let (target, after) = lines::out_line(rest, line + j as u32, diagram, &outs[..j])?;
+        outs[j] = target;
+        rest = after;
     }
+    Ok(rest)
 }
 
-// The line `(end)`, number `line`, then ground 10 and ground 11: the answer for a job whose nodes are in the table and whose outputs are read.
-fn read_last(text: &[u8], p: Progress, o: OutsRead, table: &[u16; TABLE]) -> JobRead
-    requires { (Bounded p table.now) × (Padded p.outputs o.outs) }
-    ensures { result ≡ job_read (size_tested (read_end (tabled table.now p.count (take p.outputs o.outs)) (p.line + p.outputs) (lines_of (drop o.next text.now)))) }
+// The lines in turn, and then ground 11. The nodes of an accepted job are in the first entries of the lent table.
+fn read_lines(text: &[u8], nodes: &mut [Node]) -> Result<Job, Refusal>
+    requires { length nodes.old ≡ max_nodes }
+    ensures job { result ≡ handed job_of (accepted text.now) }
+    ensures filled { IfOk result (λ job. Filled (accepted text.now) nodes.new job) }
 {
-    let n = p.count;
-    let k = p.outputs as usize;
-    let last = p.line + k as u32;
-    let end = lines::end_line(text, o.next, last);
-    if end.number != 0 {
-        return no_job(end);
-    }
-    let ids = o.outs;
-    let size = wires::dimensions(table, &ids, n, k);
+    let (head, rest) = lines::head_line(text, 1)?;
+    let (one, rest) = lines::one_line(rest, 2)?;
+    let switches = head.switches as u16;
+    let n = head.nodes as usize;
+    let k = head.outputs as usize;
+    let rest = read_nodes(rest, 3, switches, one, &mut nodes[..n])?;
+    let diagram = Diagram {
+        switches,
+        one,
+        nodes: &nodes[..n],
+    };
+    let mut outs = [0; MAX_OUTPUTS];
+    let rest = read_outs(rest, 3 + head.nodes, &diagram, &mut outs[..k])?;
+    let line = 3 + head.nodes + head.outputs;
+    last_line(rest, line)?;
+    let size = wires::dimensions(&diagram, &outs[..k]);
     if wires::too_large(size) {
-        return no_job(Refusal {
-            number: 11,
-            line: last,
-        });
+        return Err(Fault::TooLarge.at(line));
     }
-    let zeroth = table::entry_at(table, 0);
-    let first = table::entry_at(table, 1);
-    JobRead {
-        refusal: Refusal { number: 0, line: 0 },
-        job: Job {
-            switches: zeroth.x,
-            one: first.t,
-            nodes: n as u16,
-            outputs: p.outputs,
-            outs: ids,
-            rows: size.rows,
-            columns: size.columns,
-        },
-    }
+    Ok(Job {
+        switches,
+        one,
+        nodes: n as u16,
+        outputs: k as u16,
+        outs,
+        rows: size.rows,
+        columns: size.columns,
+    })
 }
 
-// The outputs and the line `(end)`: the reader's answer.
-pub fn finish(text: &[u8], p: Progress, table: &[u16; TABLE]) -> JobRead
-    requires { Bounded p table.now }
-    ensures { result ≡ job_read (size_tested (unless_refused p.refusal (read_outs p.outputs (tabled table.now p.count []) p.line (lines_of (drop p.next text.now))))) }
+// The reader: a job's text in; its record out, and its nodes in the lent table, each on the entry of its line. "entries without a line are zeros, and
+// after a refusal it holds zeros only".
+pub fn read_job(text: &[u8], nodes: &mut [Node]) -> Result<Job, Refusal>
+    requires { length nodes.old ≡ max_nodes }
+    ensures job { result ≡ handed job_of (accepted text.now) }
+    ensures table { nodes.new ≡ table (accepted text.now) }
 {
-    let stop = p.refusal;
-    if stop.number != 0 {
-        return no_job(stop);
-    }
-    let outs = read_outs(text, p.next, p.line, p.count, p.outputs as usize, table);
-    let out = outs.refusal;
-    if out.number != 0 {
-        return no_job(out);
-    }
-    read_last(text, p, outs, table)
+    let read = read_lines(text, nodes);
+    let filled = match read {
+        Ok(job) => usize::from(job.nodes),
+        Err(_) => 0,
+    };
+    clear(nodes, filled);
+    read
 }

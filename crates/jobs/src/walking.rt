@@ -1,48 +1,32 @@
 // Document 01, "The services": "walk: job text, setting and output number in; the diagram's value, 0 or 1, out."
-ghost use Rattle.std.specs.Prelude.{◌≡◌};
-ghost use Rattle.jobs.specs.Answer.{walked};
+ghost use Rattle.std.specs.Prelude.{◌≡◌, not, ◌&&◌, ltb};
+ghost use Rattle.cells.specs.Setting.{is_setting};
+ghost use Rattle.common.specs.Fault.{handed};
 ghost use Rattle.jobs.specs.Job.{walk};
 
-use crate::{Walked, table};
+use crate::Job;
+use crate::reading::read_job;
 use cells::checks;
-use common::Refusal;
-use diagram::table::TABLE;
-use diagram::walks;
+use common::{Fault, MAX_NODES, Refusal};
+use diagram::{Node, walks};
 
-// Ground 13, on no line.
-fn no_walk() -> Walked
-    ensures { result ≡ record { refusal = record { number = 13; line = 0 }; value = 0 } }
+// Ground 13: "The setting is not V bytes of 0 or 1, or walk's output number is not below K".
+fn is_wrong(job: &Job, setting: &[u8], output: u32) -> bool
+    ensures { result ≡ not (is_setting job.now.switches setting.now && ltb output job.now.outputs) }
 {
-    Walked {
-        refusal: Refusal {
-            number: 13,
-            line: 0,
-        },
-        value: 0,
-    }
+    !checks::is_setting(job.switches, setting) || output >= u32::from(job.outputs)
 }
 
-// "Walk gives 11 too." Then ground 13: "The setting is not V bytes of 0 or 1, or walk's output number is not below K".
-pub fn walk(text: &[u8], setting: &[u8], output: u32) -> Walked
-    ensures { result ≡ walked (walk text.now setting.now output) }
+// "Walk gives 11 too." Then ground 13, on no line.
+#[tactic(auto, unfolding(common::specs::Limits::max_nodes, common::specs::Limits::max_outputs))]
+pub fn walk(text: &[u8], setting: &[u8], output: u32) -> Result<u8, Refusal>
+    ensures { result ≡ handed (λ v. v) (walk text.now setting.now output) }
 {
-    let mut diagram = [0u16; TABLE];
-    let read = table::read_diagram(text, &mut diagram);
-    let refusal = read.refusal;
-    if refusal.number != 0 {
-        return Walked { refusal, value: 0 };
+    let mut nodes = [Node::default(); MAX_NODES];
+    let job = read_job(text, &mut nodes)?;
+    if is_wrong(&job, setting, output) {
+        return Err(Fault::WrongSetting.at(0));
     }
-    let job = read.job;
-    if !checks::is_setting(job.switches, setting) {
-        return no_walk();
-    }
-    if output >= job.outputs as u32 {
-        return no_walk();
-    }
-    let id = job.outs[output as usize];
-    let value = walks::walk_value(&diagram, job.nodes as usize, setting, id);
-    Walked {
-        refusal: Refusal { number: 0, line: 0 },
-        value,
-    }
+    let diagram = job.diagram(&nodes);
+    Ok(walks::walk_value(&diagram, setting, job.outs[output as usize]))
 }

@@ -1,37 +1,24 @@
 // Document 01, "Two programs": reads a set line and a listing from standard input, and prints the count of rounds and what each output
-// reads, or `(refused n line)`. The buffer for the input has one byte more than an input may have, so that a longer input is refused as
-// such.
+// reads, or `(refused n line)`.
 #![tactic(auto)]
 
-ghost use Rattle.std.specs.Prelude.{◌≡◌};
 ghost use Rattle.programs.specs.Programs.{light_program};
 
 use common::MAX_TEXT;
-use std::io::Print;
+use streams::Program;
 
-// What is handed to standard output is the text for the input, whole.
-fn write<W: Print, E: Print>(out: &W, errors: &E, input: &[u8], text: &[u8])
-    requires { text.now ≡ light_program input.now }
-{
-    streams::write_answer(
-        out,
-        errors,
-        text,
-        b"light_main: could not write the answer\n",
-    );
+struct Light;
+
+impl Program for Light {
+    const NAME: &'static str = "light_main";
+
+    ghost text = { light_program };
+
+    fn print(&self, input: &[u8], out: &mut [u8; MAX_TEXT]) -> usize {
+        programs::light_text(input, out)
+    }
 }
 
 fn main(rt: HostRuntime) {
-    let mut reader = rt.stdin();
-    let errors = rt.stderr();
-    let mut input = io::large_buffer();
-    let n = streams::read_input(
-        &mut reader,
-        &errors,
-        &mut input,
-        b"light_main: could not read the input\n",
-    );
-    let mut out = [0u8; MAX_TEXT];
-    let count = programs::light_text(&input[..n], &mut out);
-    write(&rt, &errors, &input[..n], &out[..count]);
+    streams::run(&rt, &mut rt.stdin(), &Light);
 }

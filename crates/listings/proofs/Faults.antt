@@ -1,16 +1,21 @@
 -- The grounds on a cell line and on an output line of a listing, test by test.
 use Prim.Native.Nat.{ℕ, ◌+◌, ◌*◌, ◌≤◌, ◌<◌}
-use mathlib.Core.Path.{◌≡◌}
+use mathlib.Core.Path.{◌≡◌, refl}
 use mathlib.Core.Bool.{Bool, not}
-use mathlib.Core.List.{List, [], ◌∷◌}
-use lib.ListN.{length, length-replicate}
+use mathlib.Core.List.{[], ◌∷◌}
+use lib.ListN.{length}
 use borrow.Author.Tests.{lt-ltb, le-ltb, eq-eqb, ne_eqb}
-use Rattle.common.specs.Lists.{zeros}
+use Rattle.std.specs.Prelude.{Err}
+use Rattle.common.specs.declared.Fault.TheVariants as fault
 use Rattle.common.specs.Outcome.{◌when◌, lowest}
-use Rattle.forms.specs.declared.SizeForm.{SizeForm}
+use Rattle.common.specs.Fault.{fault_of, faults, tested}
 use Rattle.forms.specs.Form.{Placed}
 use Rattle.listings.specs.Loading.{Listed, switch_below, cell_fault, out_row_fault}
-use Rattle.listings.specs.Loader.{listed}
+
+-- a ground that is met
+pub out_of_place : (k : ℕ) → k ≡ 12 → Err fault.Misplaced ≡ tested k
+unfolding tested fault_of faults
+out_of_place k e = rw e refl
 
 -- ground 12 on a cell line, test by test
 pub row_out : (x : Listed) (p : Placed) → x.rows ≤ p.row → cell_fault x p ≡ 12
@@ -63,18 +68,3 @@ stand_out x j r e h = rw (eq-eqb j (length x.outs) e, le-ltb r x.rows h)
 pub stand_in : (x : Listed) (j r : ℕ) → j ≡ length x.outs → r < x.rows → out_row_fault x j r ≡ 0
 unfolding out_row_fault lowest
 stand_in x j r e h = rw (eq-eqb j (length x.outs) e, lt-ltb r x.rows h)
-
--- the grounds ask of the codes and of the output rows before a line only how many there are
-pub codes_counted :
-    (s : SizeForm) (codes : List ℕ) (count : ℕ) (p : Placed)
-    → length codes ≡ count
-    → cell_fault (listed s codes []) p ≡ cell_fault (listed s (zeros count) []) p
-unfolding cell_fault
-codes_counted s codes count p e = rw (e, length-replicate)
-
-pub stands_counted :
-    (s : SizeForm) (stands : List ℕ) (count j r : ℕ)
-    → length stands ≡ count
-    → out_row_fault (listed s [] stands) j r ≡ out_row_fault (listed s [] (zeros count)) j r
-unfolding out_row_fault
-stands_counted s stands count j r e = rw (e, length-replicate)

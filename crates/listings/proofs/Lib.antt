@@ -1,7 +1,7 @@
 pub mod Answers
 pub mod Cells
 pub mod Faults
-pub mod Handing
+pub mod Loads
 pub mod Kept
 pub mod Lengths
 pub mod Loaded

@@ -1,224 +1,202 @@
--- The text of a listing in parts, as print writes it: one cell or output more, cells passed over, and a row more.
-use Prim.Native.Nat.{ℕ, zero, suc, ◌+◌, ◌-◌, ◌*◌, ◌/◌, ◌≤◌, ◌<◌}
-use mathlib.Core.Path.{◌≡◌, sym, ap, ◌∙◌}
+-- The text of a listing in parts, as print writes it: a cell, an output or a row more, and cells that are off.
+use Prim.Native.Nat.{ℕ, zero, suc, min, max, ◌+◌, ◌*◌, ◌/◌, ◌≤◌, ◌<◌}
+use mathlib.Core.Path.{◌≡◌, refl, sym, ap, ◌∙◌}
 use mathlib.Core.Logic.{⊎_elim}
-use mathlib.Core.Bool.{true, false}
-use mathlib.Core.List.{List, [], ◌∷◌, ◌++◌}
+use mathlib.Core.Bool.{Bool, false, not}
+use mathlib.Core.List.{List, [], ◌∷◌, ◌++◌, append_assoc}
 use native.Mathlib.Omega.{arith}
-use native.Mathlib.Nat.{mul-le-mul, mul-le-mul_right}
 use native.Mathlib.Numerals.{add-one}
-use lib.ListN.{length, get_or, take, drop, take-append-drop}
-use lib.Seq.{slice_empty, slice-cons, length-slice, length-take-le, take-take, drop-drop, drop-append-le}
+use native.Mathlib.Nat.{mul-le-mul_left}
+use lib.ListN.{length, get_or, take, drop, length-append, length-drop, drop_of_length-le, take-append-drop}
+use lib.Seq.{drop-cons, drop-drop}
+use borrow.Author.Tests.{not-false}
 use lib.Dec.{eqb}
-use borrow.Author.Tests.{eqb-true}
-use Rattle.common.specs.Limits.{max_rows, max_columns}
-use Rattle.common.specs.Lists.{all_of}
-use Rattle.common.proofs.Lists.{by_test, and_left, and_right}
+use Rattle.std.specs.Simd.{first_chunks}
+use Rattle.std.specs.Cmp.Lexicographic.{pointwise}
+use Rattle.std.proofs.lemmas.List.{nil_from_length}
+use Rattle.std.proofs.lemmas.Slice.Eq.{slice_eq-Decides}
+use Rattle.std.proofs.lemmas.Bool.Decides.{Decides-eqb}
+use Rattle.common.specs.Lists.{zeros}
+use Rattle.common.proofs.Lists.{below_or_not}
 use Rattle.cells.specs.declared.Cell.{Cell}
-use Rattle.cells.specs.declared.Cell.TheVariants.{Off}
 use Rattle.cells.specs.Code.{cell_of}
 use Rattle.forms.specs.Template.{line}
 use Rattle.forms.specs.Forms.{out_form, out_lines}
 use Rattle.listings.specs.Listing.{cell_line, cell_lines}
-use Rattle.listings.specs.Printing.{cell_text, out_text, off_first}
+use Rattle.listings.specs.Printing.{row_lines}
 use Rattle.listings.proofs.Cells.{cell_lines_append, place_row, place_column}
 
--- a row below m rows lies among their cells
-pub row_inside : (r m n : ℕ) → r < m → r * n + n ≤ m * n
-row_inside r m n h = let k : r + 1 ≤ m = omega arith in omega (arith, mul-le-mul_right n k)
+-- one output more, and none
+pub out_more :
+    (outs : List ℕ) (j d : ℕ)
+    → j < length outs
+    → out_lines j (drop j outs) ≡ line out_form (j ∷ get_or outs j d ∷ []) ++ out_lines (j + 1) (drop (j + 1) outs)
+unfolding out_lines
+out_more outs j d h = rw (drop-cons outs j d h, add-one j, out_lines) refl
 
--- a row's first place, within the limits
-pub place_small : (r n : ℕ) → r < max_rows → n ≤ max_columns → r * n ≤ max_rows * max_columns
-place_small r n h k = let h' : r ≤ max_rows = omega arith in mul-le-mul h' k
+pub outs_none : (outs : List ℕ) (j : ℕ) → length outs ≤ j → out_lines j (drop j outs) ≡ []
+unfolding out_lines
+outs_none outs j h = rw (drop_of_length-le outs h) refl
 
--- no cells, and no outputs
-pub cell_text_none : (cells : List ℕ) (n p e : ℕ) → p ≡ e → cell_text cells n p e ≡ []
-unfolding cell_text cell_lines
-cell_text_none cells n p e h = rw (h, slice_empty e cells)
+-- the cells of a row from column c on
+pub row_at : (r c c' : ℕ) (cells : List ℕ) → c ≡ c' → row_lines r c cells ≡ row_lines r c' cells
+row_at r c c' cells e = rw e
 
-pub out_text_none : (outs : List ℕ) (j k : ℕ) → j ≡ k → out_text outs j k ≡ []
-unfolding out_text out_lines
-out_text_none outs j k h = rw (h, slice_empty k outs)
+-- one cell more, and none
+pub cell_more :
+    (r c : ℕ) (cells : List ℕ) (i d : ℕ) (x : Cell)
+    → i < length cells
+    → x ≡ cell_of (get_or cells i d)
+    → row_lines r (c + i) (drop i cells) ≡ cell_line r (c + i) x ++ row_lines r (c + (i + 1)) (drop (i + 1) cells)
+unfolding row_lines
+cell_more r c cells i d x h k =
+    let e : c + suc i ≡ suc (c + i) = omega arith in
+    rw (drop-cons cells i d h, add-one i, e, k, row_lines) refl
 
--- one cell more, at row r and column c
-pub cell_text_more :
-    (cells : List ℕ) (n r c : ℕ) (x : Cell)
-    → x ≡ cell_of (get_or cells (r * n + c) 0)
-    → c < n
-    → r * n + n ≤ length cells
-    → cell_text cells n (r * n + c) (r * n + n) ≡ cell_line r c x ++ cell_text cells n (r * n + (c + 1)) (r * n + n)
-unfolding cell_text cell_lines
-cell_text_more cells n r c x d h l =
-    let p : ℕ = r * n + c in
-    let k : p < r * n + n = omega arith in
-    let q : suc p ≡ r * n + (c + 1) = omega arith in
-    ap (cell_lines n p) (slice-cons p (r * n + n) cells 0 k l)
-    ∙ rw (place_row r c n h, place_column r c n h, d)
-    (ap (λ (m : ℕ). cell_line r c (cell_of (get_or cells p 0)) ++ cell_text cells n m (r * n + n)) q)
+pub cells_nothing : (n p : ℕ) (cells : List ℕ) → length cells ≡ 0 → cell_lines n p cells ≡ []
+unfolding cell_lines
+cells_nothing n p cells h = rw (nil_from_length cells h) refl
 
--- one cell more, which is off
-pub cell_text_off :
-    (cells : List ℕ) (n r c : ℕ)
-    → get_or cells (r * n + c) 0 ≡ 0
-    → c < n
-    → r * n + n ≤ length cells
-    → cell_text cells n (r * n + c) (r * n + n) ≡ cell_text cells n (r * n + (c + 1)) (r * n + n)
-unfolding cell_line cell_of
-cell_text_off cells n r c z h l = cell_text_more cells n r c Off (sym (ap cell_of z)) h l
+-- rows of no cells are no rows, so they may be cut into pieces of one cell
+pub rows_of : (n : ℕ) (cells : List ℕ) (m : ℕ) → length cells ≤ m * n → cell_lines n 0 cells ≡ cell_lines (max n 1) 0 cells
+rows_of zero cells m h =
+    let z : length cells ≡ 0 = omega arith in
+    cells_nothing 0 0 cells z ∙ sym (cells_nothing (max 0 1) 0 cells z)
+rows_of (suc n) cells m h = let e : max (suc n) 1 ≡ suc n = omega arith in rw e refl
 
--- a place at which nothing is passed yet
-pub cell_text_from : (cells : List ℕ) (n p q e : ℕ) → p ≡ q → cell_text cells n p e ≡ cell_text cells n q e
-cell_text_from cells n p q e h = ap (λ (m : ℕ). cell_text cells n m e) h
+-- a row's number, within the limits
+pub row_small : (r n a whole m w : ℕ) → r * max n 1 + a ≤ whole → whole ≤ m * n → n ≤ w → r ≤ m * w
+row_small r n a whole m w h k l =
+    let one : 1 ≤ max n 1 = omega arith in
+    omega (arith, mul-le-mul_left r one, mul-le-mul_left m l)
 
--- one output more
-pub out_text_more :
-    (outs : List ℕ) (j k : ℕ)
-    → j < k
-    → k ≤ length outs
-    → out_text outs j k ≡ line out_form (j ∷ get_or outs j 0 ∷ []) ++ out_text outs (j + 1) k
-unfolding out_text out_lines
-out_text_more outs j k h l = rw (slice-cons j k outs 0 h l, add-one j)
+pub rows_start : (n k : ℕ) (cells xs : List ℕ) → k ≡ 0 → xs ≡ cells → cell_lines n 0 cells ≡ cell_lines n (k * n) xs
+rows_start n k cells xs e f = let z : 0 * n ≡ 0 = omega arith in rw (e, f, z)
 
--- the cells up to place m, and those from there on
-slice_split :
-    (l : List ℕ) (p m e : ℕ)
-    → p ≤ m
-    → m ≤ e
-    → m ≤ length l
-    → drop p (take e l) ≡ drop p (take m l) ++ drop m (take e l)
-slice_split l p m e h k b =
-    let within : p ≤ length (take m l) = rw length-take-le h in
-    let whole : take e l ≡ take m l ++ drop m (take e l) = sym (rw take-take at (take-append-drop m (take e l))) in
-    ap (drop p) whole ∙ drop-append-le p (take m l) (drop m (take e l)) within
+-- what is equal to zeros
+pub zeros_of : (x y : List ℕ) (r : Bool) → r ≡ not (pointwise eqb x y) → r ≡ false → x ≡ y
+zeros_of x y r e f = (slice_eq-Decides Decides-eqb x y (pointwise eqb x y) refl).0 (not-false _ (sym e ∙ f))
 
-pub cell_text_split :
-    (cells : List ℕ) (n p m e : ℕ)
-    → p ≤ m
-    → m ≤ e
-    → m ≤ length cells
-    → cell_text cells n p e ≡ cell_text cells n p m ++ cell_text cells n m e
-unfolding cell_text
-cell_text_split cells n p m e h k b =
-    let q : p + length (drop p (take m cells)) ≡ m = rw length-slice (omega arith) in
-    ap (cell_lines n p) (slice_split cells p m e h k b)
-    ∙ cell_lines_append n p (drop p (take m cells)) (drop m (take e cells))
-    ∙ rw q
+pub row_none : (r c : ℕ) (cells : List ℕ) (i : ℕ) → length cells ≤ i → row_lines r c (drop i cells) ≡ []
+unfolding row_lines
+row_none r c cells i h = rw (drop_of_length-le cells h) refl
 
--- the first cell is off, or it is not
-off_more : (k : ℕ) (s : List ℕ) → eqb k 0 ≡ true → off_first (k ∷ s) ≡ suc (off_first s)
-unfolding off_first
-off_more k s e = rw (e, off_first)
+-- a part of a row more
+pub part_more : (r c : ℕ) (a b : List ℕ) → row_lines r c (a ++ b) ≡ row_lines r c a ++ row_lines r (c + length a) b
+unfolding row_lines
+part_more r c [] b = let e : c + 0 ≡ c = omega arith in rw e
+part_more r c (k ∷ a) b =
+    let e : suc c + length a ≡ c + suc (length a) = omega arith in
+    rw (part_more r (suc c) a b, e) (sym (append_assoc (cell_line r c (cell_of k)) (row_lines r (suc c) a) _))
 
-off_none : (k : ℕ) (s : List ℕ) → eqb k 0 ≡ false → off_first (k ∷ s) ≡ 0
-unfolding off_first
-off_none k s e = rw (e, off_first)
+-- cells that are off have no line
+pub part_off : (r c m : ℕ) → row_lines r c (zeros m) ≡ []
+unfolding row_lines cell_line cell_of
+part_off r c zero = refl
+part_off r c (suc m) = part_off r (suc c) m
 
-off_most : (s : List ℕ) → off_first s ≤ length s
-unfolding off_first
-off_most [] = omega arith
-off_most (k ∷ s) =
-    ⊎_elim
-    (λ (e : eqb k 0 ≡ true). rw (off_more k s e) (omega (arith, off_most s)))
-    (λ (e : eqb k 0 ≡ false). rw (off_none k s e) (omega arith))
-    (by_test (eqb k 0))
+-- n cells of a row, and those after them; and n cells that are off
+module _ (r c n : ℕ) (left : List ℕ) {front after : List ℕ} (parts : (front ≡ take n left) × (after ≡ drop n left) × (length after + n ≡ length left)) where
+  pub row_parts : row_lines r c left ≡ row_lines r c front ++ row_lines r (c + n) after
+  row_parts =
+      let whole : left ≡ front ++ after = sym (take-append-drop n left) ∙ rw (← parts.0, ← parts.1) refl in
+      let long : length front ≡ n = omega (arith, parts, length-append front after, ap length whole) in
+      ap (row_lines r c) whole ∙ part_more r c front after ∙ ap (λ m. row_lines r c front ++ row_lines r (c + m) after) long
 
--- cells that are all off, and cells of which one is not, with others after them
-off_append : (s t : List ℕ) → all_of (λ k. eqb k 0) s ≡ true → off_first (s ++ t) ≡ length s + off_first t
-unfolding all_of
-off_append [] t h = omega arith
-off_append (k ∷ s) t h =
-    off_more k (s ++ t) (and_left (eqb k 0) (all_of (λ j. eqb j 0) s) h)
-    ∙ omega (arith, off_append s t (and_right (eqb k 0) (all_of (λ j. eqb j 0) s) h))
+  pub row_parts_off : front ≡ zeros n → row_lines r c left ≡ row_lines r (c + n) after
+  row_parts_off z = row_parts ∙ ap (λ f. row_lines r c f ++ row_lines r (c + n) after) z ∙ rw (part_off r c n) refl
 
-off_short : (s t : List ℕ) → all_of (λ k. eqb k 0) s ≡ false → off_first (s ++ t) < length s
-unfolding all_of
-off_short [] t h = absurd (let z : ◌≡◌ {A = ℕ} 0 1 = cc in omega arith)
-off_short (k ∷ s) t h =
-    ⊎_elim
-    (λ (e : eqb k 0 ≡ true). rw (off_more k (s ++ t) e) (omega (arith, off_short s t (rw e at h))))
-    (λ (e : eqb k 0 ≡ false). rw (off_none k (s ++ t) e) (omega arith))
-    (by_test (eqb k 0))
+-- a row in eights: one of them, and the cells that are left
+eight : (k : ℕ) (row : List ℕ) (i : ℕ) → i < k → get_or (first_chunks 8 k row) i [] ≡ take 8 (drop (8 * i) row)
+eight zero row i h = absurd (omega arith)
+eight (suc k) row zero h = refl
+eight (suc k) row (suc i) h =
+    let e : 8 + 8 * i ≡ 8 * suc i = omega arith in
+    eight k (drop 8 row) i (omega arith) ∙ ap (take 8) (drop-drop (8 * i) 8 row ∙ ap (λ m. drop m row) e)
 
--- off cells have no line
-off_lines : (n p k : ℕ) (s : List ℕ) → k ≤ off_first s → cell_lines n p s ≡ cell_lines n (p + k) (drop k s)
-unfolding cell_lines cell_line cell_of off_first
-off_lines n p zero s h = let e : p + 0 ≡ p = omega arith in rw e
-off_lines n p (suc k) [] h = absurd (omega arith)
-off_lines n p (suc k) (a ∷ s) h =
-    ⊎_elim
-    (λ (e : eqb a 0 ≡ true).
-    let off : a ≡ 0 = eqb-true a 0 e in
-    let less : k ≤ off_first s = omega (arith, off_more a s e) in
-    let at : suc p + k ≡ p + suc k = omega arith in
-    rw off (rw at at (off_lines n (suc p) k s less)))
-    (λ (e : eqb a 0 ≡ false). absurd (omega (arith, off_none a s e)))
-    (by_test (eqb a 0))
+pub eight_at :
+    (row : List ℕ) (eights : List (List ℕ)) (i : ℕ)
+    → eights ≡ first_chunks 8 (length row / 8) row
+    → i < length row / 8
+    → (get_or eights i [] ≡ take 8 (drop (8 * i) row))
+    × (drop (8 * i + 8) row ≡ drop 8 (drop (8 * i) row))
+    × (length (drop (8 * i + 8) row) + 8 ≡ length (drop (8 * i) row))
+eight_at row eights i e h = (
+  rw e (eight (length row / 8) row i h),
+  sym (drop-drop 8 (8 * i) row),
+  omega (arith, length-drop (8 * i + 8) row, length-drop (8 * i) row),
+)
 
--- the cells of a row from a column on, of which eight are passed over at once
-abbrev row_from : List ℕ → ℕ → ℕ → ℕ → List ℕ
-row_from cells start columns c = drop (start + c) (take (start + columns) cells)
+pub eights_left :
+    (r : ℕ) (row left : List ℕ) (i n : ℕ)
+    → i ≡ length row / 8
+    → n ≡ length row / 8
+    → left ≡ drop (length row / 8 * 8) row
+    → row_lines r (8 * i) (drop (8 * i) row) ≡ row_lines r (8 * n) left
+eights_left r row left i n e f back =
+    let m : length row / 8 * 8 ≡ 8 * i = omega arith in
+    let k : 8 * n ≡ 8 * i = omega arith in
+    rw (back, m, k) refl
 
-module _ (cells : List ℕ) (start columns c : ℕ) (fits : start + columns ≤ length cells) where
-  eight_first :
-      c + 8 ≤ columns
-      → row_from cells start columns c ≡ drop (start + c) (take (start + c + 8) cells) ++ row_from cells start columns (c + 8)
-  eight_first h =
-      let e : start + c + 8 ≡ start + (c + 8) = omega arith in
-      rw e (slice_split cells (start + c) (start + (c + 8)) (start + columns) (omega arith) (omega arith) (omega arith))
+-- a row of n columns
+row_from : (n r c : ℕ) (a : List ℕ) → c + length a ≤ n → cell_lines n (r * n + c) a ≡ row_lines r c a
+unfolding cell_lines row_lines
+row_from n r c [] h = refl
+row_from n r c (k ∷ a) h =
+    let next : suc (r * n + c) ≡ r * n + suc c = omega arith in
+    rw (place_row r c n (omega arith), place_column r c n (omega arith), next, row_from n r (suc c) a (omega arith))
 
-  eight_long : c + 8 ≤ columns → length (drop (start + c) (take (start + c + 8) cells)) ≡ 8
-  eight_long h =
-      length-slice (start + c) (start + c + 8) cells (omega arith) ∙ omega arith
+-- pieces of n cells: k of them are past, xs are the cells that are left of `whole` cells, and m is the size that the iterator has
+pub record Pieces (n whole k : ℕ) (xs : List ℕ) (m : ℕ) : Type 0 where
+  pub sized : m ≡ n
+  pub placed : 0 < length xs → k * n + length xs ≡ whole
 
-  pub eight_passed :
-      c + 8 ≤ columns
-      → all_of (λ k. eqb k 0) (drop (start + c) (take (start + c + 8) cells)) ≡ true
-      → off_first (row_from cells start columns c) ≡ 8 + off_first (row_from cells start columns (c + 8))
-  eight_passed h off =
-      ap off_first (eight_first h) ∙ off_append (drop (start + c) (take (start + c + 8) cells)) _ off ∙ rw (eight_long h)
+-- the piece x is at the front of what is left, and ys follow it
+pub record Piece (n : ℕ) (xs x ys : List ℕ) : Type 0 where
+  pub parts : xs ≡ x ++ ys
+  pub long : length x ≡ min n (length xs)
+  pub more : 0 < length xs
 
-  pub eight_not :
-      c + 8 ≤ columns
-      → all_of (λ k. eqb k 0) (drop (start + c) (take (start + c + 8) cells)) ≡ false
-      → off_first (row_from cells start columns c) < 8
-  eight_not h on =
-      rw (eight_first h)
-      (rw (eight_long h) at (off_short (drop (start + c) (take (start + c + 8) cells)) (row_from cells start columns (c + 8)) on))
+pub pieces_start : (n m k : ℕ) (xs all : List ℕ) → xs ≡ all → k ≡ 0 → m ≡ n → Pieces n (length all) k xs m
+pieces_start n m k xs all e z s = record { sized = s; placed = λ h. rw (e, z) (omega arith) }
 
-  pub eight_past : c ≤ columns → columns < c + 8 → off_first (row_from cells start columns c) < 8
-  eight_past h k =
-      let most = off_most (row_from cells start columns c) in
-      let long = length-slice (start + c) (start + columns) cells fits in
-      omega arith
+pub piece : {n whole k m : ℕ} {xs x ys : List ℕ} → Pieces n whole k xs m → xs ≡ x ++ ys → length x ≡ min m (length xs) → 0 < length xs → Piece n xs x ys
+piece {xs = xs} p parts long more = record { parts = parts; long = long ∙ ap (λ n. min n (length xs)) p.sized; more = more }
 
-  -- the text from the column to go on with
-  pub cell_text_pass :
-      (n d : ℕ)
-      → c ≤ columns
-      → d ≡ c + off_first (row_from cells start columns c) / 8 * 8
-      → (cell_text cells n (start + c) (start + columns) ≡ cell_text cells n (start + d) (start + columns)) × (c ≤ d) × (d ≤ columns)
-  unfolding cell_text
-  cell_text_pass n d h is =
-      let off = off_first (row_from cells start columns c) in
-      let most = off_most (row_from cells start columns c) in
-      let long = length-slice (start + c) (start + columns) cells fits in
-      let k : ℕ = d - c in
-      let within : k ≤ off_first (row_from cells start columns c) = omega arith in
-      let at : start + c + k ≡ start + d = omega arith in (
-        off_lines n (start + c) k (row_from cells start columns c) within
-            ∙ rw (drop-drop k (start + c) (take (start + columns) cells), at),
-        omega arith,
-        omega arith,
-      )
+module _ {n : ℕ} {xs x ys : List ℕ} (p : Piece n xs x ys) where
+  both : length xs ≡ length x + length ys
+  both = ap length p.parts ∙ length-append x ys
 
--- a row more, of m rows
-pub cell_text_row :
-    (cells : List ℕ) (n r m : ℕ)
-    → r < m
-    → m * n ≤ length cells
-    → cell_text cells n (r * n) (m * n) ≡ cell_text cells n (r * n) (r * n + n) ++ cell_text cells n ((r + 1) * n) (m * n)
-cell_text_row cells n r m h l =
-    let e : r * n + n ≡ (r + 1) * n = omega arith in
-    let k : r * n + n ≤ m * n = row_inside r m n h in
-    cell_text_split cells n (r * n) (r * n + n) (m * n) (omega arith) k (omega arith)
-    ∙ ap (λ (w : List ℕ). cell_text cells n (r * n) (r * n + n) ++ w) (cell_text_from cells n (r * n + n) ((r + 1) * n) (m * n) e)
+  -- it has n cells where any follow
+  whole_piece : 0 < length ys → length x ≡ n
+  whole_piece h = omega (arith, both, p.long)
+
+  pub pieces_next : {whole k m m' k' : ℕ} → Pieces n whole k xs m → m' ≡ m → k' ≡ k + 1 → Pieces n whole k' ys m'
+  pieces_next {whole} {k} {m} {m'} {k'} s e f =
+      record {
+        sized = e ∙ s.sized;
+        placed = λ h. rw f (omega (arith, s.placed p.more, both, whole_piece h));
+      }
+
+  pub piece_inside : {whole k m : ℕ} → Pieces n whole k xs m → k * n + length x ≤ whole
+  piece_inside s = omega (arith, s.placed p.more, both)
+
+  -- what follows it
+  follow : {B : Type 0} (f : ℕ → List ℕ → B) (a b : ℕ) → a + n ≡ b → ((c d : ℕ) → f c [] ≡ f d []) → f (a + length x) ys ≡ f b ys
+  follow f a b e none =
+      ⊎_elim
+      (λ (h : 0 < length ys). ap (λ c. f c ys) (ap (λ m. a + m) (whole_piece h) ∙ e))
+      (λ (h : length ys ≤ 0). let z : ys ≡ [] = nil_from_length ys (omega arith) in rw z (none (a + length x) b))
+      (below_or_not 0 (length ys))
+
+  -- the lines of rows of n cells, from row r on
+  pub rows_piece : (r : ℕ) {k k' : ℕ} → r ≡ k → k' ≡ k + 1 → cell_lines n (k * n) xs ≡ row_lines r 0 x ++ cell_lines n (k' * n) ys
+  unfolding cell_lines
+  rows_piece r e f =
+      rw (f, ← e)
+      (let z : r * n ≡ r * n + 0 = omega arith in
+      let inside : 0 + length x ≤ n = omega (arith, p.long) in
+      ap (cell_lines n (r * n)) p.parts
+      ∙ cell_lines_append n (r * n) x ys
+      ∙ ap (λ a. cell_lines n (r * n) x ++ a) (follow (cell_lines n) (r * n) ((r + 1) * n) (omega arith) (λ c d. refl))
+      ∙ ap (λ a. a ++ cell_lines n ((r + 1) * n) ys) (ap (λ q. cell_lines n q x) z ∙ row_from n r 0 x inside))

@@ -2,41 +2,24 @@
 -- output names 0." Proved of the rows and columns as defined.
 use Prim.Native.Nat.{ℕ, zero, suc, ◌+◌, ◌≤◌, ◌<◌}
 use mathlib.Core.Path.{◌≡◌, refl}
-use mathlib.Core.Logic.{⊎_elim}
 use mathlib.Core.Bool.{◌||◌}
 use native.Mathlib.Omega.{arith}
 use lib.ListN.{length}
 use lib.Dec.{eqb}
 use Rattle.common.specs.Lists.{bit}
-use Rattle.common.proofs.Lists.{equal_or_not}
-use Rattle.diagram.specs.Diagram.{Diagram, id_count, entry, entries, terminal, label_at}
+use Rattle.diagram.specs.Diagram.{Diagram, id_count, entry, entries, terminal}
 use Rattle.diagram.specs.Wires.{has_row, has_column, owners, row_owners, column_owners, row_count, column_count, names_zero}
 use Rattle.diagram.specs.Facts.{Facts}
 use Rattle.diagram.proofs.Owners.{owners_more}
 use Rattle.placement.specs.Sentences.{has_both, both_count}
-
--- a label is `h`, `v` or `b`
-pub by_label : (P : ℕ → Type 0) → P 1 → P 2 → P 3 → (t : ℕ) → 1 ≤ t → t ≤ 3 → P t
-by_label P row column both zero least most = absurd (omega arith)
-by_label P row column both (suc zero) least most = row
-by_label P row column both (suc (suc zero)) least most = column
-by_label P row column both (suc (suc (suc zero))) least most = both
-by_label P row column both (suc (suc (suc (suc t)))) least most = absurd (omega arith)
+use Rattle.placement.proofs.Labels.{Label, is_h, is_v, is_b, id_label}
 
 -- each label has a row or a column, `b` both
-label_wires : (t : ℕ) → 1 ≤ t → t ≤ 3 → bit (eqb t 1 || eqb t 3) + bit (eqb t 2 || eqb t 3) ≡ 1 + bit (eqb t 3)
+label_wires : {t : ℕ} → Label t → bit (eqb t 1 || eqb t 3) + bit (eqb t 2 || eqb t 3) ≡ 1 + bit (eqb t 3)
 unfolding bit
-label_wires =
-    by_label (λ t. bit (eqb t 1 || eqb t 3) + bit (eqb t 2 || eqb t 3) ≡ 1 + bit (eqb t 3)) refl refl refl
-
--- the labels of the terminals
-pub label_zero : (d : Diagram) → label_at d 0 ≡ 0
-unfolding entry entries terminal
-label_zero d = refl
-
-pub label_one : (d : Diagram) → label_at d 1 ≡ d.one
-unfolding entry entries terminal
-label_one d = refl
+label_wires is_h = refl
+label_wires is_v = refl
+label_wires is_b = refl
 
 -- "Terminal 0 has no wire"
 no_wires : (d : Diagram) → length (owners (has_row d) 1) + length (owners (has_column d) 1) ≡ 0 + length (owners (has_both d) 1)
@@ -48,23 +31,10 @@ unfolding id_count
 id_count_lem d = refl
 
 module _ (d : Diagram) (facts : Facts d) where
-  -- each id but terminal 0 has a label
-  pub labelled : (i : ℕ) → 1 ≤ i → i < id_count d → (1 ≤ label_at d i) × (label_at d i ≤ 3)
-  labelled i least most =
-      ⊎_elim
-      (λ (e : i ≡ 1).
-      rw (e, label_one d)
-      (⊎_elim
-      (λ (t : d.one ≡ 1). (omega arith, omega arith))
-      (λ (t : d.one ≡ 3). (omega arith, omega arith))
-      facts.one_label))
-      (λ (other : i ≡ 1 → ⊥). let n = facts.node i (omega arith) most in (n.label_least, n.label_most))
-      (equal_or_not i 1)
-
   -- an id's row and column, counted
   wires_of : (i : ℕ) → 1 ≤ i → i < id_count d → bit (has_row d i) + bit (has_column d i) ≡ 1 + bit (has_both d i)
   unfolding has_row has_column has_both
-  wires_of i least most = let t = labelled i least most in label_wires (label_at d i) t.0 t.1
+  wires_of i least most = label_wires (id_label d facts i least most)
 
   -- the wires of the ids below n
   wires_below :

@@ -2,7 +2,7 @@
 -- store, the buffer is as it is to be.
 use Prim.Native.Nat.{ℕ, ◌<◌}
 use mathlib.Core.Path.{◌≡◌, refl, sym, ◌∙◌}
-use mathlib.Core.Logic.{◌⊎◌, inl, inr, ⊎_elim}
+use mathlib.Core.Logic.{◌⊎◌, inl, inr}
 use mathlib.Core.Bool.{Bool, true, false}
 use mathlib.Core.List.{List}
 use native.Mathlib.Omega.{arith}
@@ -10,7 +10,7 @@ use lib.ListN.{length, get_or, set, length-set, length-replicate}
 use lib.Seq.{get_or-set_same, get_or-set_other, ext_get_or}
 use Rattle.common.specs.Lists.{zeros}
 use Rattle.common.proofs.Lists.{true_or_false, equal_or_not, get_or-zeros_at}
-use Rattle.placement.specs.Filling.{choose, store_if}
+use Rattle.placement.specs.Filling.{store_if}
 
 -- what stands at a place is what is to stand there
 abbrev pub Filled : List ℕ → List ℕ → ℕ → Type 0
@@ -29,11 +29,10 @@ pub all_filled : (target s : List ℕ) → Partly target s → ((p : ℕ) → p 
 all_filled target s partly filled =
     ext_get_or 0 s target partly.long
     (λ p within.
-    ⊎_elim
-    (λ (none : get_or target p 0 ≡ 0).
-    ⊎_elim (λ (e : get_or s p 0 ≡ 0). e ∙ sym none) (λ (e : Filled target s p). e) (partly.right p))
-    (λ (some : get_or target p 0 ≡ 0 → ⊥). filled p (omega (arith, partly.long)) some)
-    (equal_or_not (get_or target p 0) 0))
+    elim (equal_or_not (get_or target p 0) 0) [
+      | inl none ↦ elim (partly.right p) [ inl e ↦ e ∙ sym none | inr e ↦ e ]
+      | inr some ↦ filled p (omega (arith, partly.long)) some
+    ])
 
 module _ (target : List ℕ) where
   -- a store fills its place, and keeps those that are filled
@@ -43,28 +42,25 @@ module _ (target : List ℕ) where
   -- what stands at a place after a store
   store_at : (s : List ℕ) (p a q : ℕ) → Partly target s → p < length target → get_or target p 0 ≡ a → Filled target (set s p a) q ⊎ (get_or (set s p a) q 0 ≡ get_or s q 0)
   store_at s p a q partly within e =
-      ⊎_elim
-      (λ (same : q ≡ p). inl (rw same (store_new s p a partly within e)))
-      (λ (other : q ≡ p → ⊥). inr (get_or-set_other s p q a 0 other))
-      (equal_or_not q p)
+      elim (equal_or_not q p) [
+        | inl same ↦ inl (rw same (store_new s p a partly within e))
+        | inr other ↦ inr (get_or-set_other s p q a 0 other)
+      ]
 
   store_kept : (s : List ℕ) (p a q : ℕ) → Partly target s → p < length target → get_or target p 0 ≡ a → Filled target s q → Filled target (set s p a) q
   store_kept s p a q partly within e filled =
-      ⊎_elim (λ (f : Filled target (set s p a) q). f) (λ (f : get_or (set s p a) q 0 ≡ get_or s q 0). f ∙ filled) (store_at s p a q partly within e)
+      elim (store_at s p a q partly within e) [ inl f ↦ f | inr f ↦ f ∙ filled ]
 
   store_partly : (s : List ℕ) (p a : ℕ) → Partly target s → p < length target → get_or target p 0 ≡ a → Partly target (set s p a)
   store_partly s p a partly within e =
       record {
         long = length-set s p a ∙ partly.long;
         right = λ q.
-            ⊎_elim
-            (λ (f : Filled target (set s p a) q). inr f)
-            (λ (f : get_or (set s p a) q 0 ≡ get_or s q 0).
-            ⊎_elim
-            (λ (none : get_or s q 0 ≡ 0). inl (f ∙ none))
-            (λ (filled : Filled target s q). inr (f ∙ filled))
-            (partly.right q))
-            (store_at s p a q partly within e);
+            elim (store_at s p a q partly within e) [
+              | inl f ↦ inr f
+              | inr f ↦
+                  elim (partly.right q) [ inl none ↦ inl (f ∙ none) | inr filled ↦ inr (f ∙ filled) ]
+            ];
       }
 
   -- a buffer after one store, or none: what was filled is kept, and the place of the store is filled
@@ -78,7 +74,7 @@ module _ (target : List ℕ) where
       → Partly target s
       → (test ≡ true → (place < length target) × (get_or target place 0 ≡ code))
       → Stored test place s (store_if test place code s)
-  unfolding store_if choose
+  unfolding store_if
   one_store true place code s partly right =
       let to = right refl in
       record {

@@ -1,12 +1,13 @@
 pub mod Owners
 pub mod Places
+pub mod Labels
 pub mod Readings
 pub mod Count
 pub mod Sentences
 pub mod Sound
-pub mod FillingLaws
-pub mod Heads
 pub mod Filled
 pub mod Wanted
-pub mod Tabled
+pub mod Stores
+pub mod Heads
+pub mod Plans
 pub mod Maps

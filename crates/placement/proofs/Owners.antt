@@ -1,14 +1,15 @@
 -- The numbering of wires: the ids that have a wire are numbered in rising order, so number and id give each other. Over any test of
 -- ids, so that it holds of rows and of columns.
 use Prim.Native.Nat.{ℕ, zero, suc, ◌+◌, ◌<◌}
-use mathlib.Core.Path.{◌≡◌, sym, ap, ◌∙◌}
-use mathlib.Core.Logic.{⊎_elim}
+use mathlib.Core.Path.{◌≡◌, refl, sym, ◌∙◌}
+use mathlib.Core.Logic.{inl, inr}
 use mathlib.Core.Bool.{Bool, true, false}
 use mathlib.Core.List.{[], ◌∷◌, ◌++◌}
 use native.Mathlib.Omega.{arith}
 use lib.ListN.{length, get_or, length-append, get_or-append}
-use Rattle.common.proofs.Lists.{by_test, true_or_false, at_or_below, get_or_last}
+use Rattle.common.proofs.Lists.{by_test, at_or_below, get_or_last}
 use Rattle.diagram.specs.Wires.{owners}
+use Rattle.diagram.proofs.Owners.{owners_more}
 
 -- an id is the last of the list, or not in it
 grown : (has : ℕ → Bool) (n : ℕ) → has n ≡ true → owners has (suc n) ≡ owners has n ++ (n ∷ [])
@@ -23,40 +24,23 @@ kept has n h = rw (h, owners)
 pub number_below : (has : ℕ → Bool) (n i : ℕ) → has i ≡ true → i < n → length (owners has i) < length (owners has n)
 number_below has zero i h k = absurd (omega arith)
 number_below has (suc n) i h k =
-    ⊎_elim
-    (λ (last : has n ≡ true).
-    rw (grown has n last, length-append)
-    (⊎_elim
-    (λ (e : i ≡ n). rw e (omega arith))
-    (λ (below : i < n). omega (arith, number_below has n i h below))
-    (at_or_below i n k)))
-    (λ (none : has n ≡ false).
-    rw (kept has n none)
-    (⊎_elim
-    (λ (e : i ≡ n). absurd (true_or_false (has n) (rw e at h) none))
-    (λ (below : i < n). number_below has n i h below)
-    (at_or_below i n k)))
-    (by_test (has n))
+    elim (at_or_below i n k) [
+      | inl e ↦ rw (← e, grown has i h, length-append) (omega arith)
+      | inr below ↦ omega (arith, number_below has n i h below, owners_more has n)
+    ]
 
 -- and the wire with that number is its own
 pub owner_at : (has : ℕ → Bool) (n i : ℕ) → has i ≡ true → i < n → get_or (owners has n) (length (owners has i)) 0 ≡ i
 owner_at has zero i h k = absurd (omega arith)
 owner_at has (suc n) i h k =
-    ⊎_elim
-    (λ (last : has n ≡ true).
-    rw (grown has n last)
-    (⊎_elim
-    (λ (e : i ≡ n). get_or_last (owners has n) n 0 (length (owners has i)) (ap (λ (x : ℕ). length (owners has x)) e) ∙ sym e)
-    (λ (below : i < n).
-    get_or-append (owners has n) (n ∷ []) 0 (length (owners has i)) (number_below has n i h below) ∙ owner_at has n i h below)
-    (at_or_below i n k)))
-    (λ (none : has n ≡ false).
-    rw (kept has n none)
-    (⊎_elim
-    (λ (e : i ≡ n). absurd (true_or_false (has n) (rw e at h) none))
-    (λ (below : i < n). owner_at has n i h below)
-    (at_or_below i n k)))
-    (by_test (has n))
+    elim (at_or_below i n k) [
+      | inl e ↦ rw (← e, grown has i h) (get_or_last (owners has i) i 0 (length (owners has i)) refl)
+      | inr below ↦
+          elim (by_test (has n)) [
+            | inl last ↦ rw (grown has n last) (get_or-append (owners has n) (n ∷ []) 0 (length (owners has i)) (number_below has n i h below) ∙ owner_at has n i h below)
+            | inr none ↦ rw (kept has n none) (owner_at has n i h below)
+          ]
+    ]
 
 -- the id with the wire numbered r, of those below n
 record Owner (has : ℕ → Bool) (n r id : ℕ) : Type 0 where
@@ -68,17 +52,16 @@ owner : (has : ℕ → Bool) (n r : ℕ) → r < length (owners has n) → Owner
 unfolding owners
 owner has zero r k = absurd (omega arith)
 owner has (suc n) r k =
-    ⊎_elim
-    (λ (last : has n ≡ true).
-    rw (grown has n last)
-    (⊎_elim
-    (λ (e : r ≡ length (owners has n)).
-    rw (get_or_last (owners has n) n 0 r e) (record { holds = last; below = omega arith; numbered = sym e }))
-    (λ (earlier : r < length (owners has n)).
-    rw (get_or-append (owners has n) (n ∷ []) 0 r earlier) (longer (owner has n r earlier)))
-    (at_or_below r (length (owners has n)) (let b = rw (grown has n last, length-append) at k in omega arith))))
-    (λ (none : has n ≡ false). rw (kept has n none) (longer (owner has n r (rw (kept has n none) at k))))
-    (by_test (has n))
+    elim (by_test (has n)) [
+      | inl last ↦
+          rw (grown has n last)
+          (elim (at_or_below r (length (owners has n)) (let b = rw (grown has n last, length-append) at k in omega arith)) [
+            | inl e ↦
+                rw (get_or_last (owners has n) n 0 r e) (record { holds = last; below = omega arith; numbered = sym e })
+            | inr earlier ↦ rw (get_or-append (owners has n) (n ∷ []) 0 r earlier) (longer (owner has n r earlier))
+          ])
+      | inr none ↦ rw (kept has n none) (longer (owner has n r (rw (kept has n none) at k)))
+    ]
   where
     longer : {id : ℕ} → Owner has n r id → Owner has (suc n) r id
     longer o = record { holds = o.holds; below = omega arith; numbered = o.numbered }

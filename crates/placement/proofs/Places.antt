@@ -2,7 +2,7 @@
 -- same id, or one is the step of the other under the setting.
 use Prim.Native.Nat.{ℕ, zero, suc, ◌≤◌, ◌<◌}
 use mathlib.Core.Path.{◌≡◌, refl, sym, ap, ◌∙◌}
-use mathlib.Core.Logic.{⊎_elim}
+use mathlib.Core.Logic.{inl, inr}
 use mathlib.Core.Bool.{true, false, ◌&&◌}
 use mathlib.Core.List.{List}
 use native.Mathlib.Omega.{arith}
@@ -93,17 +93,17 @@ meeting_over d p q h k t =
     rw (ne_eqb p 0 (λ z. omega arith), ne_eqb p q (λ z. omega arith), le-ltb q p (omega arith), t, meeting)
 
 -- the edge's cell
-edge_low : (d : Diagram) (p q : ℕ) → eqb q (low_at d p) ≡ true → edge d p q ≡ No (switch_at d p)
+pub edge_low : (d : Diagram) (p q : ℕ) → q ≡ low_at d p → edge d p q ≡ No (switch_at d p)
 unfolding edge
-edge_low d p q e = rw (e, edge)
+edge_low d p q e = rw (eq-eqb q (low_at d p) e, edge)
 
-edge_high : (d : Diagram) (p q : ℕ) → eqb q (low_at d p) ≡ false → eqb q (high_at d p) ≡ true → edge d p q ≡ Yes (switch_at d p)
+pub edge_high : (d : Diagram) (p q : ℕ) → (q ≡ low_at d p → ⊥) → q ≡ high_at d p → edge d p q ≡ Yes (switch_at d p)
 unfolding edge
-edge_high d p q e f = rw (e, f, edge)
+edge_high d p q other e = rw (ne_eqb q (low_at d p) other, eq-eqb q (high_at d p) e, edge)
 
-edge_none : (d : Diagram) (p q : ℕ) → eqb q (low_at d p) ≡ false → eqb q (high_at d p) ≡ false → edge d p q ≡ Off
+pub edge_none : (d : Diagram) (p q : ℕ) → (q ≡ low_at d p → ⊥) → (q ≡ high_at d p → ⊥) → edge d p q ≡ Off
 unfolding edge
-edge_none d p q e f = rw (e, f, edge)
+edge_none d p q other another = rw (ne_eqb q (low_at d p) other, ne_eqb q (high_at d p) another, edge)
 
 -- an off cell never conducts
 off_dark : (s : List ℕ) (c : Cell) → c ≡ Off → conducts s c ≡ true → ⊥
@@ -114,29 +114,28 @@ off_dark s c e h = true_or_false (conducts s Off) (rw e at h) refl
 pub edge-step : (d : Diagram) (s : List ℕ) (p q : ℕ) → conducts s (edge d p q) ≡ true → step d s p ≡ q
 unfolding conducts
 edge-step d s p q h =
-    ⊎_elim
-    (λ (low : eqb q (low_at d p) ≡ true).
-    let lit : eqb (get_or s (switch_at d p) 0) 0 ≡ true = rw (edge_low d p q low) at h in
-    let none : get_or s (switch_at d p) 0 ≡ 0 = eqb-true (get_or s (switch_at d p) 0) 0 lit in
-    step_low d s p (ne_eqb (get_or s (switch_at d p) 0) 1 (λ z. omega arith)) ∙ sym (eqb-true q (low_at d p) low))
-    (λ (other : eqb q (low_at d p) ≡ false).
-    ⊎_elim
-    (λ (high : eqb q (high_at d p) ≡ true).
-    let lit : eqb (get_or s (switch_at d p) 0) 1 ≡ true = rw (edge_high d p q other high) at h in
-    step-high d s p lit ∙ sym (eqb-true q (high_at d p) high))
-    (λ (neither : eqb q (high_at d p) ≡ false). absurd (off_dark s (edge d p q) (edge_none d p q other neither) h))
-    (by_test (eqb q (high_at d p))))
-    (by_test (eqb q (low_at d p)))
+    elim (equal_or_not q (low_at d p)) [
+      | inl low ↦
+          let lit : eqb (get_or s (switch_at d p) 0) 0 ≡ true = rw (edge_low d p q low) at h in
+          let none : get_or s (switch_at d p) 0 ≡ 0 = eqb-true (get_or s (switch_at d p) 0) 0 lit in
+          step_low d s p (ne_eqb (get_or s (switch_at d p) 0) 1 (λ z. omega arith)) ∙ sym low
+      | inr other ↦
+          elim (equal_or_not q (high_at d p)) [
+            | inl high ↦
+                let lit : eqb (get_or s (switch_at d p) 0) 1 ≡ true = rw (edge_high d p q other high) at h in step-high d s p lit ∙ sym high
+            | inr neither ↦ absurd (off_dark s (edge d p q) (edge_none d p q other neither) h)
+          ]
+    ]
 
 -- a setting has no byte above 1
 pub setting_most : (v : ℕ) (s : List ℕ) (x : ℕ) → is_setting v s ≡ true → get_or s x 0 ≤ 1
 unfolding is_setting
 setting_most v s x h =
-    ⊎_elim
-    (λ (k : x < length s).
-    leb-true (get_or s x 0) 1 (all_of_at (λ b. leb b 1) s x (and_right (eqb (length s) v) (all_of (λ b. leb b 1) s) h) k))
-    (λ (k : length s ≤ x). rw (get_or-eq_default s 0 k) (omega arith))
-    (below_or_not x (length s))
+    elim (below_or_not x (length s)) [
+      | inl k ↦
+          leb-true (get_or s x 0) 1 (all_of_at (λ b. leb b 1) s x (and_right (eqb (length s) v) (all_of (λ b. leb b 1) s) h) k)
+      | inr k ↦ rw (get_or-eq_default s 0 k) (omega arith)
+    ]
 
 -- and the edge to a node's step conducts
 pub step-edge :
@@ -146,20 +145,15 @@ pub step-edge :
     → conducts s (edge d i (step d s i)) ≡ true
 unfolding conducts
 step-edge d s i facts setting =
-    ⊎_elim
-    (λ (one : eqb (get_or s (switch_at d i) 0) 1 ≡ true).
-    rw (
-      step-high d s i one,
-      edge_high d i (high_at d i) (ne_eqb (high_at d i) (low_at d i) (λ e. facts.children_differ (sym e))) (eq-eqb (high_at d i) (high_at d i) refl),
-    )
-    one)
-    (λ (other : eqb (get_or s (switch_at d i) 0) 1 ≡ false).
-    let differs = eqb-false (get_or s (switch_at d i) 0) 1 other in
-    let none : get_or s (switch_at d i) 0 ≡ 0 = omega (arith, setting_most d.switches s (switch_at d i) setting) in
-    rw
-    (step_low d s i other, edge_low d i (low_at d i) (eq-eqb (low_at d i) (low_at d i) refl))
-    (eq-eqb (get_or s (switch_at d i) 0) 0 none))
-    (by_test (eqb (get_or s (switch_at d i) 0) 1))
+    elim (by_test (eqb (get_or s (switch_at d i) 0) 1)) [
+      | inl one ↦ rw (step-high d s i one, edge_high d i (high_at d i) (λ e. facts.children_differ (sym e)) refl) one
+      | inr other ↦
+          let differs = eqb-false (get_or s (switch_at d i) 0) 1 other in
+          let none : get_or s (switch_at d i) 0 ≡ 0 = omega (arith, setting_most d.switches s (switch_at d i) setting) in
+          rw
+          (step_low d s i other, edge_low d i (low_at d i) refl)
+          (eq-eqb (get_or s (switch_at d i) 0) 0 none)
+    ]
 
 -- how the ids of a row and a column are related whose cell conducts
 pub data Joined (d : Diagram) (s : List ℕ) (p q : ℕ) : Type 0 where
@@ -170,18 +164,16 @@ pub data Joined (d : Diagram) (s : List ℕ) (p q : ℕ) : Type 0 where
 pub joined : (d : Diagram) (s : List ℕ) (p q : ℕ) → conducts s (meeting d p q) ≡ true → Joined d s p q
 joined d s zero q h = absurd (off_dark s (meeting d 0 q) (meeting_none d q) h)
 joined d s (suc p) q h =
-    ⊎_elim
-    (λ (k : q < suc p). down (edge-step d s (suc p) q (rw (meeting_down d (suc p) q k) at h)))
-    (λ (k : suc p ≤ q).
-    ⊎_elim
-    (λ (e : suc p ≡ q). own e)
-    (λ (e : suc p ≡ q → ⊥).
-    let above : suc p < q = omega arith in
-    ⊎_elim
-    (λ (t : has_row d q && has_column d (suc p) ≡ true).
-    absurd (off_dark s (meeting d (suc p) q) (meeting_over d (suc p) q (omega arith) above t) h))
-    (λ (t : has_row d q && has_column d (suc p) ≡ false).
-    up (edge-step d s q (suc p) (rw (meeting_up d (suc p) q (omega arith) above t) at h)))
-    (by_test (has_row d q && has_column d (suc p))))
-    (equal_or_not (suc p) q))
-    (below_or_not q (suc p))
+    elim (below_or_not q (suc p)) [
+      | inl k ↦ down (edge-step d s (suc p) q (rw (meeting_down d (suc p) q k) at h))
+      | inr k ↦
+          elim (equal_or_not (suc p) q) [
+            | inl e ↦ own e
+            | inr e ↦
+                let above : suc p < q = omega arith in
+                elim (by_test (has_row d q && has_column d (suc p))) [
+                  | inl t ↦ absurd (off_dark s (meeting d (suc p) q) (meeting_over d (suc p) q (omega arith) above t) h)
+                  | inr t ↦ up (edge-step d s q (suc p) (rw (meeting_up d (suc p) q (omega arith) above t) at h))
+                ]
+          ]
+    ]

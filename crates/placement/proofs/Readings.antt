@@ -1,8 +1,8 @@
 -- What an output of a placed crossbar reads: a chain joins row 0 to the row of an id exactly when the walk from that id ends at
 -- terminal 1.
-use Prim.Native.Nat.{ℕ, zero, suc, ◌≤◌, ◌<◌}
+use Prim.Native.Nat.{ℕ, zero, suc, ◌<◌}
 use mathlib.Core.Path.{◌≡◌, refl, sym, ap, ◌∙◌}
-use mathlib.Core.Logic.{◌⊎◌, inl, inr, ⊎_elim, ◌↔◌}
+use mathlib.Core.Logic.{◌⊎◌, inl, inr, ◌↔◌}
 use mathlib.Core.Bool.{Bool, true, false, ◌&&◌, ◌||◌}
 use mathlib.Core.List.{List}
 use native.Mathlib.Omega.{arith}
@@ -23,6 +23,7 @@ use Rattle.conduction.proofs.Chains.{chain_within}
 use Rattle.conduction.specs.Chain.{Wire, row, column, Chain, here, across, back, Within}
 use Rattle.placement.specs.Placement.{edge, meeting, cells, out_row}
 use Rattle.placement.proofs.Owners.{owner_below}
+use Rattle.placement.proofs.Labels.{Label, is_h, is_v, is_b, id_label, child_row}
 use Rattle.placement.proofs.Places.{joined_at, row_owner, column_below, within_rows, joined_ids, meeting-same, meeting_down, meeting_up, step-edge, Joined, own, down, up, joined}
 
 -- the chains of a diagram's crossbar under a setting
@@ -45,7 +46,7 @@ zero_rowless d = refl
 
 pub one_row : (d : Diagram) → Facts d → has_row d 1 ≡ true
 unfolding has_row entry entries terminal
-one_row d facts = ⊎_elim (λ (e : d.one ≡ 1). rw e) (λ (e : d.one ≡ 3). rw e) facts.one_label
+one_row d facts = elim facts.one_label [ inl e ↦ rw e | inr e ↦ rw e ]
 
 pub row_zero : (d : Diagram) → row_of d 1 ≡ 0
 unfolding row_of owners
@@ -63,10 +64,10 @@ walk_some d s (suc i) e = omega arith
 -- the id of any wire is an id of the diagram
 owner_within : (d : Diagram) (has : ℕ → Bool) (r : ℕ) → get_or (owners has (id_count d)) r 0 < id_count d
 owner_within d has r =
-    ⊎_elim
-    (λ (k : r < length (owners has (id_count d))). owner_below has (id_count d) r k)
-    (λ (k : length (owners has (id_count d)) ≤ r). rw (get_or-eq_default (owners has (id_count d)) 0 k) (omega (arith, one_within d)))
-    (below_or_not r (length (owners has (id_count d))))
+    elim (below_or_not r (length (owners has (id_count d)))) [
+      | inl k ↦ owner_below has (id_count d) r k
+      | inr k ↦ rw (get_or-eq_default (owners has (id_count d)) 0 k) (omega (arith, one_within d))
+    ]
 
 module _ (d : Diagram) (s : List ℕ) (facts : Facts d) where
   -- the ids of a row and a column whose cell conducts have walks that end alike
@@ -106,62 +107,6 @@ module _ (d : Diagram) (s : List ℕ) (facts : Facts d) where
   pub chain_walk : (r : ℕ) → Reach d s (row r) → walk_end d s (get_or (row_owners d) r 0) ≡ 1
   unfolding owner_of
   chain_walk r chain = owner_walk chain
-
--- a label: `h`, `v` or `b`
-data Label : ℕ → Type 0 where
-  is_h : Label 1
-  is_v : Label 2
-  is_b : Label 3
-
-label : (t : ℕ) → 1 ≤ t → t ≤ 3 → Label t
-label zero least most = absurd (omega arith)
-label (suc zero) least most = is_h
-label (suc (suc zero)) least most = is_v
-label (suc (suc (suc zero))) least most = is_b
-label (suc (suc (suc (suc t)))) least most = absurd (omega arith)
-
--- of two labels that are not both `h` nor both `v`: where the first has no row or the second no column, the second has a row and the
--- first a column
-unlike :
-    {t u : ℕ}
-    → Label t
-    → Label u
-    → alike t u ≡ false
-    → (eqb t 1 || eqb t 3) && (eqb u 2 || eqb u 3) ≡ false
-    → (eqb u 1 || eqb u 3 ≡ true) × (eqb t 2 || eqb t 3 ≡ true)
-unfolding alike
-unlike is_h is_h e f = absurd (true_or_false true refl e)
-unlike is_h is_v e f = absurd (true_or_false true refl f)
-unlike is_h is_b e f = absurd (true_or_false true refl f)
-unlike is_v is_h e f = (refl, refl)
-unlike is_v is_v e f = absurd (true_or_false true refl e)
-unlike is_v is_b e f = (refl, refl)
-unlike is_b is_h e f = (refl, refl)
-unlike is_b is_v e f = absurd (true_or_false true refl f)
-unlike is_b is_b e f = absurd (true_or_false true refl f)
-
-id_label : (d : Diagram) → Facts d → (i : ℕ) → 0 < i → i < id_count d → Label (label_at d i)
-unfolding entry entries terminal
-id_label d facts zero some within = absurd (omega arith)
-id_label d facts (suc zero) some within =
-    ⊎_elim (λ (e : d.one ≡ 1). rw e is_h) (λ (e : d.one ≡ 3). rw e is_b) facts.one_label
-id_label d facts (suc (suc i)) some within =
-    let f = facts.node (suc (suc i)) (omega arith) within in
-    label (label_at d (suc (suc i))) f.label_least f.label_most
-
--- where the edge from a node to its child k does not stand at the node's row, it stands at the child's
-child_row :
-    (d : Diagram) → Facts d → (i k : ℕ)
-    → 0 < i
-    → i < id_count d
-    → 0 < k
-    → k < id_count d
-    → alike (label_at d i) (label_at d k) ≡ false
-    → has_row d i && has_column d k ≡ false
-    → (has_row d k ≡ true) × (has_column d i ≡ true)
-unfolding has_row has_column
-child_row d facts i k some within some_child child-within e f =
-    unlike (id_label d facts i some within) (id_label d facts k some_child child-within) e f
 
 -- that chains join row 0 to the wires that an id has
 record LitWire (d : Diagram) (s : List ℕ) (i : ℕ) : Type 0 where
@@ -221,17 +166,17 @@ module _ (d : Diagram) (s : List ℕ) (facts : Facts d) (setting : is_setting d.
       → LitWire d s k
       → LitWire d s i
   lit_parent i k within some below e lit child =
-      ⊎_elim
-      (λ (t : has_row d i && has_column d k ≡ true).
-      let i-row = and_left (has_row d i) (has_column d k) t in
-      let k-column = and_right (has_row d i) (has_column d k) t in
-      from_row i (omega arith) within i-row
-      (to_row i k i-row within k-column (omega arith) (rw (meeting_down d i k below) lit) (child.at_column k-column)))
-      (λ (t : has_row d i && has_column d k ≡ false).
-      let others = child_row d facts i k (omega arith) within some (omega arith) e t in
-      from_column i (omega arith) within others.1
-      (to_column k i others.0 (omega arith) others.1 within (rw (meeting_up d k i some below t) lit) (child.at_row others.0)))
-      (by_test (has_row d i && has_column d k))
+      elim (by_test (has_row d i && has_column d k)) [
+        | inl t ↦
+            let i-row = and_left (has_row d i) (has_column d k) t in
+            let k-column = and_right (has_row d i) (has_column d k) t in
+            from_row i (omega arith) within i-row
+            (to_row i k i-row within k-column (omega arith) (rw (meeting_down d i k below) lit) (child.at_column k-column))
+        | inr t ↦
+            let others = child_row d facts i k (omega arith) within some (omega arith) e t in
+            from_column i (omega arith) within others.1
+            (to_column k i others.0 (omega arith) others.1 within (rw (meeting_up d k i some below t) lit) (child.at_row others.0))
+      ]
 
   -- where the walk from an id ends at 1, chains join row 0 to its wires: by induction on a bound of the id
   lit_below : (n i : ℕ) → i < n → i < id_count d → walk_end d s i ≡ 1 → LitWire d s i
@@ -257,12 +202,12 @@ module _ (d : Diagram) (s : List ℕ) (facts : Facts d) (setting : is_setting d.
   walk_chain i within ends = let lit = lit_below (suc i) i (omega arith) within ends in (lit.at_row, lit.at_column)
 
 -- the row of an output: of an id with a row, and of 0
-out_row_of : (d : Diagram) (i : ℕ) → has_row d i ≡ true → out_row d i ≡ row_of d i
+pub out_row_of : (d : Diagram) (i : ℕ) → has_row d i ≡ true → out_row d i ≡ row_of d i
 unfolding out_row
 out_row_of d zero has = absurd (true_or_false (has_row d 0) has (zero_rowless d))
 out_row_of d (suc i) has = rw (ne_eqb (suc i) 0 (λ z. omega arith), out_row)
 
-out_row_zero : (d : Diagram) → out_row d 0 ≡ length (row_owners d)
+pub out_row_zero : (d : Diagram) → out_row d 0 ≡ length (row_owners d)
 unfolding out_row
 out_row_zero d = refl
 
@@ -301,11 +246,10 @@ pub out_on_row : (d : Diagram) → Facts d → (j : ℕ) → j < length d.outs �
 unfolding has_row names_zero
 out_on_row d facts j k =
     let i = get_or d.outs j 0 in
-    ⊎_elim
-    (λ (e : i ≡ 0). inr (e, any_of_at (λ x. eqb x 0) d.outs j 0 k (eq-eqb i 0 e)))
-    (λ (e : i ≡ 0 → ⊥).
-    inl (not_column (id_label d facts i (omega arith) (facts.outs_named j k)) (facts.outs_in_rows j k)))
-    (equal_or_not i 0)
+    elim (equal_or_not i 0) [
+      | inl e ↦ inr (e, any_of_at (λ x. eqb x 0) d.outs j 0 k (eq-eqb i 0 e))
+      | inr e ↦ inl (not_column (id_label d facts i (omega arith) (facts.outs_named j k)) (facts.outs_in_rows j k))
+    ]
   where
     not_column : {t : ℕ} → Label t → (t ≡ 2 → ⊥) → eqb t 1 || eqb t 3 ≡ true
     not_column is_h other = refl

@@ -1,26 +1,27 @@
 -- Document 01, "Placement", in its own sentences: every diagram that breaks none of the grounds has them.
 use Prim.Native.Nat.{ℕ, zero, suc, ◌+◌, ◌*◌, ◌≤◌, ◌<◌}
 use mathlib.Core.Path.{◌≡◌, refl, sym, ap, ◌∙◌}
-use mathlib.Core.Logic.{◌⊎◌, inl, inr, ⊎_elim}
+use mathlib.Core.Logic.{◌⊎◌, inl, inr}
 use mathlib.Core.Bool.{Bool, true, false, ◌&&◌, ◌||◌}
 use native.Mathlib.Omega.{arith}
 use lib.ListN.{length, get_or, get_or-eq_default}
 use lib.Dec.{eqb}
-use borrow.Author.Tests.{eqb-true, eq-eqb, ne_eqb}
+use borrow.Author.Tests.{eqb-true}
 use Rattle.common.specs.Lists.{bit}
-use Rattle.common.proofs.Lists.{and_left, and_right, and_both, or_cases, by_test, true_or_false, equal_or_not, below_or_not, get_or-grid}
-use Rattle.cells.specs.declared.Cell.TheVariants.{Off, On, Yes, No}
+use Rattle.common.proofs.Lists.{and_left, and_right, and_both, or_cases, by_test, true_or_false, equal_or_not, below_or_not, not-zero, get_or-grid}
+use Rattle.cells.specs.declared.Cell.TheVariants.{On}
 use Rattle.cells.specs.Code.{code_of}
-use Rattle.diagram.specs.Diagram.{Diagram, id_count, entry, entries, terminal, switch_at, low_at, high_at, label_at}
+use Rattle.diagram.specs.Diagram.{Diagram, id_count, entry, entries, terminal, low_at, high_at, label_at}
 use Rattle.diagram.specs.Faults.{alike}
 use Rattle.diagram.specs.Wires.{has_row, has_column, owners, row_owners, column_owners, row_of, column_of, names_zero, row_count, column_count}
 use Rattle.diagram.specs.Facts.{Facts}
 use Rattle.placement.specs.Placement.{edge, meeting, code_at, cells, out_row}
 use Rattle.placement.specs.Sentences.{child_at, literal, edge_row, edge_column, IsEdge, CellStands, own, step, Sentences}
 use Rattle.placement.proofs.Owners.{number_below, owner_has, owner_below, owner_number, number_injective}
-use Rattle.placement.proofs.Places.{within_rows, column_below, row_owner, column_owner, meeting-same, meeting_down, meeting_up, meeting_over}
+use Rattle.placement.proofs.Places.{within_rows, column_below, row_owner, column_owner, meeting-same, meeting_down, meeting_up, meeting_over, edge_low, edge_high, edge_none}
 use Rattle.placement.proofs.Readings as readings
-use Rattle.placement.proofs.Count.{by_label, label_zero, label_one, labelled, wires_count}
+use Rattle.placement.proofs.Count.{wires_count}
+use Rattle.placement.proofs.Labels.{label_zero, label_one, child_row}
 
 -- the two wires of an edge from i to k: the row of one of them and the column of the other
 record EdgeEnds (d : Diagram) (i k : ℕ) : Type 0 where
@@ -61,36 +62,17 @@ column_not_zero : (d : Diagram) (i : ℕ) → has_column d i ≡ true → 1 ≤ 
 column_not_zero d zero h = absurd (true_or_false (has_column d 0) h (columnless_zero d))
 column_not_zero d (suc i) h = omega arith
 
--- of two labels that are not both `h` nor both `v`, where the first has no row or the second no column, the second has a row and
--- the first a column
-abbrev Crossed : ℕ → ℕ → Type 0
-Crossed t u =
-    alike t u ≡ false
-    → (eqb t 1 || eqb t 3) && (eqb u 2 || eqb u 3) ≡ false
-    → (eqb u 1 || eqb u 3 ≡ true) × (eqb t 2 || eqb t 3 ≡ true)
-
-crossed : (t u : ℕ) → 1 ≤ t → t ≤ 3 → 1 ≤ u → u ≤ 3 → Crossed t u
-unfolding alike
-crossed t u t-least t-most u-least u-most =
-    by_label (λ t. Crossed t u)
-    (by_label (λ u. Crossed 1 u) (λ a b. (refl, sym a)) (λ a b. (sym b, sym b)) (λ a b. (refl, sym b)) u u-least u-most)
-    (by_label (λ u. Crossed 2 u) (λ a b. (refl, refl)) (λ a b. (sym a, refl)) (λ a b. (refl, refl)) u u-least u-most)
-    (by_label (λ u. Crossed 3 u) (λ a b. (refl, refl)) (λ a b. (sym b, refl)) (λ a b. (refl, refl)) u u-least u-most)
-    t
-    t-least
-    t-most
-
 -- both wires: `b`
 both_wires : (t : ℕ) → (eqb t 1 || eqb t 3 ≡ true) → (eqb t 2 || eqb t 3 ≡ true) → t ≡ 3
 both_wires t row column =
-    ⊎_elim
-    (λ (h : eqb t 1 ≡ true).
-    ⊎_elim
-    (λ (v : eqb t 2 ≡ true). absurd (omega (arith, eqb-true t 1 h, eqb-true t 2 v)))
-    (λ (b : eqb t 3 ≡ true). eqb-true t 3 b)
-    (or_cases (eqb t 2) (eqb t 3) column))
-    (λ (b : eqb t 3 ≡ true). eqb-true t 3 b)
-    (or_cases (eqb t 1) (eqb t 3) row)
+    elim (or_cases (eqb t 1) (eqb t 3) row) [
+      | inl h ↦
+          elim (or_cases (eqb t 2) (eqb t 3) column) [
+            | inl v ↦ absurd (omega (arith, eqb-true t 1 h, eqb-true t 2 v))
+            | inr b ↦ eqb-true t 3 b
+          ]
+      | inr b ↦ eqb-true t 3 b
+    ]
 
 module _ (d : Diagram) where
   first_column : column_of d 1 ≡ 0
@@ -172,32 +154,20 @@ module _ (d : Diagram) where
   place_child i k otherwise = (rw (otherwise, edge_row), rw (otherwise, edge_column))
 
   -- a cell that is not off is that of an edge to the low or the high child
-  edge_low : (i k : ℕ) → k ≡ low_at d i → edge d i k ≡ No (switch_at d i)
-  unfolding edge
-  edge_low i k e = rw (eq-eqb k (low_at d i) e, edge)
-
-  edge_high : (i k : ℕ) → (k ≡ low_at d i → ⊥) → k ≡ high_at d i → edge d i k ≡ Yes (switch_at d i)
-  unfolding edge
-  edge_high i k other e = rw (ne_eqb k (low_at d i) other, eq-eqb k (high_at d i) e, edge)
-
-  edge_none : (i k : ℕ) → (k ≡ low_at d i → ⊥) → (k ≡ high_at d i → ⊥) → edge d i k ≡ Off
-  unfolding edge
-  edge_none i k other another = rw (ne_eqb k (low_at d i) other, ne_eqb k (high_at d i) another, edge)
-
   edge_some :
       (i k : ℕ)
       → (code_of (edge d i k) ≡ 0 → ⊥)
       → (side : Bool) × (k ≡ child_at d i side) × (code_of (edge d i k) ≡ code_of (literal d i side))
   unfolding code_of
   edge_some i k some =
-      ⊎_elim
-      (λ (e : k ≡ low_at d i). (false, e, ap code_of (edge_low i k e)))
-      (λ (other : k ≡ low_at d i → ⊥).
-      ⊎_elim
-      (λ (e : k ≡ high_at d i). (true, e, ap code_of (edge_high i k other e)))
-      (λ (another : k ≡ high_at d i → ⊥). absurd (some (ap code_of (edge_none i k other another))))
-      (equal_or_not k (high_at d i)))
-      (equal_or_not k (low_at d i))
+      elim (equal_or_not k (low_at d i)) [
+        | inl e ↦ (false, e, ap code_of (edge_low d i k e))
+        | inr other ↦
+            elim (equal_or_not k (high_at d i)) [
+              | inl e ↦ (true, e, ap code_of (edge_high d i k other e))
+              | inr another ↦ absurd (some (ap code_of (edge_none d i k other another)))
+            ]
+      ]
 
   -- a place of an edge from i to k whose cell is not off
   step-at :
@@ -234,32 +204,32 @@ module _ (d : Diagram) where
       let code = code_meeting p q row row_most column column_most in
       let p-least = row_not_zero d p row in
       let q-least = column_not_zero d q column in
-      ⊎_elim
-      (λ (e : p ≡ q).
-      let b = both_wires (label_at d p) row (rw (← e) at column) in
-      rw (← e) (own p row_most b refl refl (both_on p row_most b)))
-      (λ (apart : p ≡ q → ⊥).
-      ⊎_elim
-      (λ (lower : q < p).
-      let place = place_parent p q (and_both (has_row d p) (has_column d q) row column) in
-      step-at p q (row_of d p) (column_of d q) (omega arith) row_most q-least
-      (sym place.0)
-      (sym place.1)
-      (code ∙ ap code_of (meeting_down d p q lower))
-      some)
-      (λ (higher : p ≤ q).
-      ⊎_elim
-      (λ (both : has_row d q && has_column d p ≡ true). absurd (some (code ∙ ap code_of (meeting_over d p q p-least (omega arith) both))))
-      (λ (otherwise : has_row d q && has_column d p ≡ false).
-      let place = place_child q p otherwise in
-      step-at q p (row_of d p) (column_of d q) (omega arith) column_most p-least
-      (sym place.0)
-      (sym place.1)
-      (code ∙ ap code_of (meeting_up d p q p-least (omega arith) otherwise))
-      some)
-      (by_test (has_row d q && has_column d p)))
-      (below_or_not q p))
-      (equal_or_not p q)
+      elim (equal_or_not p q) [
+        | inl e ↦
+            let b = both_wires (label_at d p) row (rw (← e) at column) in
+            rw (← e) (own p row_most b refl refl (both_on p row_most b))
+        | inr apart ↦
+            elim (below_or_not q p) [
+              | inl lower ↦
+                  let place = place_parent p q (and_both (has_row d p) (has_column d q) row column) in
+                  step-at p q (row_of d p) (column_of d q) (omega arith) row_most q-least
+                  (sym place.0)
+                  (sym place.1)
+                  (code ∙ ap code_of (meeting_down d p q lower))
+                  some
+              | inr higher ↦
+                  elim (by_test (has_row d q && has_column d p)) [
+                    | inl both ↦ absurd (some (code ∙ ap code_of (meeting_over d p q p-least (omega arith) both)))
+                    | inr otherwise ↦
+                        let place = place_child q p otherwise in
+                        step-at q p (row_of d p) (column_of d q) (omega arith) column_most p-least
+                        (sym place.0)
+                        (sym place.1)
+                        (code ∙ ap code_of (meeting_up d p q p-least (omega arith) otherwise))
+                        some
+                  ]
+            ]
+      ]
 
   -- "one last row without cells": past the rows of ids every cell is off
   ownerless_off : (r c : ℕ) → length (row_owners d) ≤ r → code_at d r c ≡ 0
@@ -269,21 +239,18 @@ module _ (d : Diagram) where
   -- a cell that is not off is the on cell of a `b` label or the literal of an edge
   pub placed : (r c : ℕ) → c < column_count d → (code_at d r c ≡ 0 → ⊥) → CellStands d r c
   placed r c within some =
-      ⊎_elim
-      (λ (below : r < length (row_owners d)).
-      let p = row_owned r below in
-      let q = column_owned c within in
-      rw (← p.3, ← q.3) (placed_at p.0 q.0 p.2 p.1 q.2 q.1 (rw (p.3, q.3) some)))
-      (λ (past : length (row_owners d) ≤ r). absurd (some (ownerless_off r c past)))
-      (below_or_not r (length (row_owners d)))
+      elim (below_or_not r (length (row_owners d))) [
+        | inl below ↦
+            let p = row_owned r below in
+            let q = column_owned c within in
+            rw (← p.3, ← q.3) (placed_at p.0 q.0 p.2 p.1 q.2 q.1 (rw (p.3, q.3) some))
+        | inr past ↦ absurd (some (ownerless_off r c past))
+      ]
 
   -- "All other cells are off."
   others_off : (r c : ℕ) → c < column_count d → (CellStands d r c → ⊥) → code_at d r c ≡ 0
   others_off r c within none =
-      ⊎_elim
-      (λ (off : code_at d r c ≡ 0). off)
-      (λ (some : code_at d r c ≡ 0 → ⊥). absurd (none (placed r c within some)))
-      (equal_or_not (code_at d r c) 0)
+      elim (equal_or_not (code_at d r c) 0) [ inl off ↦ off | inr some ↦ absurd (none (placed r c within some)) ]
 
   -- "If any output names 0, one last row without cells serves all such outputs."
   last_row_empty :
@@ -319,18 +286,9 @@ module _ (d : Diagram) (facts : Facts d) where
       → IsEdge d i side
       → has_row d i && has_column d (child_at d i side) ≡ false
       → (has_row d (child_at d i side) ≡ true) × (has_column d i ≡ true)
-  unfolding has_row has_column
   otherwise_wires i side e otherwise =
       let below = child_below i side e.least e.most in
-      let parent = labelled d facts i (omega arith) e.most in
-      let child = labelled d facts (child_at d i side) (omega (arith, e.present)) (omega arith) in
-      crossed
-      (label_at d i)
-      (label_at d (child_at d i side))
-      parent.0
-      parent.1
-      child.0
-      child.1
+      child_row d facts i (child_at d i side) (omega arith) e.most (not-zero (child_at d i side) e.present) (omega arith)
       (child_unlike i side e.least e.most)
       otherwise
 
@@ -340,34 +298,34 @@ module _ (d : Diagram) (facts : Facts d) where
       let k = child_at d i side in
       let below : child_at d i side < i = child_below i side e.least e.most in
       let least : 1 ≤ child_at d i side = omega (arith, e.present) in
-      ⊎_elim
-      (λ (both : has_row d i && has_column d k ≡ true).
-      record {
-        p = i;
-        q = k;
-        row = and_left (has_row d i) (has_column d k) both;
-        row_most = e.most;
-        column = and_right (has_row d i) (has_column d k) both;
-        column_most = omega (arith, e.most);
-        at_row = (place_parent d i k both).0;
-        at_column = (place_parent d i k both).1;
-        holds = meeting_down d i k below;
-        ids = inl (refl, refl);
-      })
-      (λ (otherwise : has_row d i && has_column d k ≡ false).
-      record {
-        p = k;
-        q = i;
-        row = (otherwise_wires i side e otherwise).0;
-        row_most = omega (arith, e.most);
-        column = (otherwise_wires i side e otherwise).1;
-        column_most = e.most;
-        at_row = (place_child d i k otherwise).0;
-        at_column = (place_child d i k otherwise).1;
-        holds = meeting_up d k i least below otherwise;
-        ids = inr (refl, refl);
-      })
-      (by_test (has_row d i && has_column d k))
+      elim (by_test (has_row d i && has_column d k)) [
+        | inl both ↦
+            record {
+              p = i;
+              q = k;
+              row = and_left (has_row d i) (has_column d k) both;
+              row_most = e.most;
+              column = and_right (has_row d i) (has_column d k) both;
+              column_most = omega (arith, e.most);
+              at_row = (place_parent d i k both).0;
+              at_column = (place_parent d i k both).1;
+              holds = meeting_down d i k below;
+              ids = inl (refl, refl);
+            }
+        | inr otherwise ↦
+            record {
+              p = k;
+              q = i;
+              row = (otherwise_wires i side e otherwise).0;
+              row_most = omega (arith, e.most);
+              column = (otherwise_wires i side e otherwise).1;
+              column_most = e.most;
+              at_row = (place_child d i k otherwise).0;
+              at_column = (place_child d i k otherwise).1;
+              holds = meeting_up d k i least below otherwise;
+              ids = inr (refl, refl);
+            }
+      ]
 
   edge-literal : (i : ℕ) (side : Bool) → 2 ≤ i → i < id_count d → edge d i (child_at d i side) ≡ literal d i side
   edge-literal i false least most = edge_low d i (low_at d i) refl

@@ -2,7 +2,7 @@
 -- below R and the unused ones 0.
 use Prim.Native.Nat.{ℕ, ◌+◌, ◌-◌, ◌*◌, ◌≤◌, ◌<◌}
 use mathlib.Core.Path.{◌≡◌, refl}
-use mathlib.Core.Logic.{⊎_elim}
+use mathlib.Core.Logic.{inl, inr}
 use mathlib.Core.Bool.{Bool, true, false}
 use mathlib.Core.List.{map}
 use native.Mathlib.Omega.{arith}
@@ -63,10 +63,7 @@ module _ (d : Diagram) (facts : Facts d) where
   -- "a code above 1 + 2·V": none
   pub code_most : (r c : ℕ) → c < column_count d → code_at d r c ≤ 1 + 2 * d.switches
   code_most r c within =
-      ⊎_elim
-      (λ (off : code_at d r c ≡ 0). omega arith)
-      (λ (some : code_at d r c ≡ 0 → ⊥). placed_most r c (placed d r c within some))
-      (equal_or_not (code_at d r c) 0)
+      elim (equal_or_not (code_at d r c) 0) [ inl off ↦ omega arith | inr some ↦ placed_most r c (placed d r c within some) ]
 
   -- each output row is a row
   pub out_row_below_lem : (j : ℕ) → j < length d.outs → out_row d (get_or d.outs j 0) < row_count d

@@ -1,8 +1,8 @@
 -- What is to stand at each place of the buffer: the on cell of a `b` label, the literal of an edge, or 0.
 use Prim.Native.Nat.{ℕ, zero, suc, ◌+◌, ◌-◌, ◌*◌, ◌/◌, ◌%◌, ◌≤◌, ◌<◌}
-use mathlib.Core.Path.{◌≡◌, refl, sym, ap, ◌∙◌}
-use mathlib.Core.Logic.{⊎_elim}
-use mathlib.Core.Bool.{Bool, true, false, ◌&&◌}
+use mathlib.Core.Path.{◌≡◌, sym, ap, ◌∙◌}
+use mathlib.Core.Logic.{inl, inr}
+use mathlib.Core.Bool.{Bool, ◌&&◌}
 use mathlib.Core.List.{List}
 use native.Mathlib.Omega.{arith}
 use native.Mathlib.Nat.{div-add-mod', div-lt_iff_lt-mul, mod-lt}
@@ -11,22 +11,14 @@ use lib.Seq.{get_or-append-add}
 use Rattle.common.specs.Lists.{zeros, padded}
 use Rattle.common.proofs.Lists.{by_test, below_or_not, length-grid, length-padded, get_or-padded, within_grid, get_or-zeros_at}
 use Rattle.cells.specs.Code.{code_of}
-use Rattle.diagram.specs.Diagram.{Diagram, id_count, switch_at, label_at}
+use Rattle.diagram.specs.Diagram.{Diagram, id_count, label_at}
 use Rattle.diagram.specs.Wires.{has_row, has_column, row_of, column_of, row_count, column_count}
 use Rattle.diagram.specs.Facts.{Facts}
 use Rattle.placement.specs.Placement.{code_at, cells}
-use Rattle.placement.specs.Filling.{choose, edge_code}
+use Rattle.placement.specs.Filling.{cell_place, edge_place}
 use Rattle.placement.proofs.Places.{within_rows, column_below}
 use Rattle.placement.specs.Sentences.{child_at, literal, edge_row, edge_column, IsEdge, CellStands, own, step}
 use Rattle.placement.proofs.Sentences.{stored, both_on, placed, edge-placed, edge_within}
-
--- where the cell of a `b` label stands in the buffer, and that of the edge from i to k
-unfoldable pub own_place : Diagram → ℕ → ℕ
-own_place d i = row_of d i * column_count d + column_of d i
-
-unfoldable pub edge_place : Diagram → ℕ → ℕ → ℕ
-edge_place d i k =
-    choose (has_row d i && has_column d k) (row_of d i * column_count d + column_of d k) (row_of d k * column_count d + column_of d i)
 
 -- each place of a grid is that of a row and a column
 in_grid : (m n p : ℕ) → p < m * n → (p / n < m) × (p % n < n) × (p ≡ p / n * n + p % n)
@@ -42,22 +34,33 @@ past_padded n s p h =
 
 -- the place of an edge, by its row and its column
 edge-place : (d : Diagram) (i k : ℕ) → edge_place d i k ≡ edge_row d i k * column_count d + edge_column d i k
-unfolding edge_place edge_row edge_column choose
+unfolding edge_place cell_place edge_row edge_column
 edge-place d i k =
-    ⊎_elim
-    (λ (both : has_row d i && has_column d k ≡ true). rw (both, edge_row, edge_column))
-    (λ (otherwise : has_row d i && has_column d k ≡ false). rw (otherwise, edge_row, edge_column))
-    (by_test (has_row d i && has_column d k))
-
-edge_code_lem : (d : Diagram) (i : ℕ) (side : Bool) → code_of (literal d i side) ≡ edge_code side (switch_at d i)
-unfolding edge_code choose
-edge_code_lem d i true = refl
-edge_code_lem d i false = refl
+    elim (by_test (has_row d i && has_column d k)) [
+      | inl both ↦ rw (both, edge_row, edge_column)
+      | inr otherwise ↦ rw (otherwise, edge_row, edge_column)
+    ]
 
 -- whose cell stands at a place of the buffer
 pub data Whose (d : Diagram) (p : ℕ) : Type 0 where
-  of_label : (i : ℕ) → i < id_count d → label_at d i ≡ 3 → p ≡ own_place d i → Whose d p
+  of_label : (i : ℕ) → i < id_count d → label_at d i ≡ 3 → p ≡ cell_place d i i → Whose d p
   of_edge : (i : ℕ) (side : Bool) → IsEdge d i side → p ≡ edge_place d i (child_at d i side) → Whose d p
+
+-- the place of an on cell, and that of an edge, is within a buffer that holds all cells
+module _ (d : Diagram) (room : ℕ) (fits : row_count d * column_count d ≤ room) where
+  place_within : (r c : ℕ) → r < row_count d → c < column_count d → r * column_count d + c < room
+  place_within r c h k = omega (arith, within_grid (row_count d) (column_count d) r c h k)
+
+  pub own_within : (i : ℕ) → i < id_count d → label_at d i ≡ 3 → cell_place d i i < room
+  unfolding cell_place has_row has_column
+  own_within i most b =
+      place_within (row_of d i) (column_of d i) (within_rows d i (rw b) most) (column_below d i (rw b) most)
+
+  pub edge-within : Facts d → (i : ℕ) (side : Bool) → IsEdge d i side → edge_place d i (child_at d i side) < room
+  edge-within facts i side e =
+      let k = child_at d i side in
+      let at = edge_within d facts i side e in
+      rw (edge-place d i k) (place_within (edge_row d i k) (edge_column d i k) at.0 at.1)
 
 module _ (d : Diagram) (facts : Facts d) (room : ℕ) (fits : row_count d * column_count d ≤ room) where
   cells_long : length (cells d) ≡ row_count d * column_count d
@@ -74,51 +77,45 @@ module _ (d : Diagram) (facts : Facts d) (room : ℕ) (fits : row_count d * colu
       let within : r * column_count d + c < length (cells d) = omega (arith, cells_long, within_grid (row_count d) (column_count d) r c h k) in
       get_or-padded room (cells d) (r * column_count d + c) 0 within ∙ stored d r c h k
 
-  place_in : (r c : ℕ) → r < row_count d → c < column_count d → r * column_count d + c < length (padded room (cells d))
-  place_in r c h k = omega (arith, target_long, within_grid (row_count d) (column_count d) r c h k)
-
-  pub label_in_lem :
+  pub own_in :
       (i : ℕ)
       → i < id_count d
       → label_at d i ≡ 3
-      → (own_place d i < length (padded room (cells d))) × (get_or (padded room (cells d)) (own_place d i) 0 ≡ 1)
-  unfolding own_place has_row has_column code_of
-  label_in_lem i most b =
-      let row : has_row d i ≡ true = rw b in
-      let column : has_column d i ≡ true = rw b in
-      let r = within_rows d i row most in
-      let c = column_below d i column most in
-      (place_in (row_of d i) (column_of d i) r c, target_at (row_of d i) (column_of d i) r c ∙ both_on d i most b)
+      → (cell_place d i i < length (padded room (cells d))) × (get_or (padded room (cells d)) (cell_place d i i) 0 ≡ 1)
+  unfolding cell_place has_row has_column code_of
+  own_in i most b = (
+    rw target_long (own_within d room fits i most b),
+    target_at (row_of d i) (column_of d i) (within_rows d i (rw b) most) (column_below d i (rw b) most) ∙ both_on d i most b,
+  )
 
   pub edge_in :
       (i : ℕ) (side : Bool)
       → IsEdge d i side
       → (edge_place d i (child_at d i side) < length (padded room (cells d)))
-      × (get_or (padded room (cells d)) (edge_place d i (child_at d i side)) 0 ≡ edge_code side (switch_at d i))
+      × (get_or (padded room (cells d)) (edge_place d i (child_at d i side)) 0 ≡ code_of (literal d i side))
   edge_in i side e =
       let k = child_at d i side in
-      let at = edge_within d facts i side e in
-      rw (edge-place d i k) (
-        place_in (edge_row d i k) (edge_column d i k) at.0 at.1,
-        target_at (edge_row d i k) (edge_column d i k) at.0 at.1 ∙ edge-placed d facts i side e ∙ edge_code_lem d i side,
+      let at = edge_within d facts i side e in (
+        rw target_long (edge-within d room fits facts i side e),
+        rw (edge-place d i k) (target_at (edge_row d i k) (edge_column d i k) at.0 at.1 ∙ edge-placed d facts i side e),
       )
 
   whose_at : (r c p : ℕ) → p ≡ r * column_count d + c → CellStands d r c → Whose d p
-  unfolding own_place
+  unfolding cell_place
   whose_at r c p e (own i most b at_row at_column code) = of_label i most b (e ∙ rw (at_row, at_column))
   whose_at r c p e (step i side is_edge at_row at_column code) =
       of_edge i side is_edge (e ∙ rw (at_row, at_column) (sym (edge-place d i (child_at d i side))))
 
-  -- "All other cells are off", and bytes past R-as-C are 0
+  -- "All other cells are off", and bytes past R·C are 0
   pub whose : (p : ℕ) → (get_or (padded room (cells d)) p 0 ≡ 0 → ⊥) → Whose d p
   whose p some =
-      ⊎_elim
-      (λ (within : p < row_count d * column_count d).
-      let at = in_grid (row_count d) (column_count d) p within in
-      let r = p / column_count d in
-      let c = p % column_count d in
-      let code : get_or (padded room (cells d)) p 0 ≡ code_at d (p / column_count d) (p % column_count d) =
-      ap (λ (q : ℕ). get_or (padded room (cells d)) q 0) at.2 ∙ target_at r c at.0 at.1 in
-      whose_at r c p at.2 (placed d r c at.1 (λ off. some (code ∙ off))))
-      (λ (past : row_count d * column_count d ≤ p). absurd (some (past_padded room (cells d) p (omega (arith, cells_long)))))
-      (below_or_not p (row_count d * column_count d))
+      elim (below_or_not p (row_count d * column_count d)) [
+        | inl within ↦
+            let at = in_grid (row_count d) (column_count d) p within in
+            let r = p / column_count d in
+            let c = p % column_count d in
+            let code : get_or (padded room (cells d)) p 0 ≡ code_at d (p / column_count d) (p % column_count d) =
+            ap (λ (q : ℕ). get_or (padded room (cells d)) q 0) at.2 ∙ target_at r c at.0 at.1 in
+            whose_at r c p at.2 (placed d r c at.1 (λ off. some (code ∙ off)))
+        | inr past ↦ absurd (some (past_padded room (cells d) p (omega (arith, cells_long))))
+      ]

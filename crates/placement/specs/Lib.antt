@@ -1,7 +1,7 @@
--- The law, which the contract of map and the theorems rest on: Placement, Map, Answer and Sentences (what document 01 says of the placement).
--- Working definitions, which only inner contracts cite: Filling.
+-- The law, which the contract of map and the theorems rest on: Placement, Map and Sentences (what document 01 says of the placement).
+-- Working definitions, which only inner contracts cite: Plan, Filling.
 pub mod Placement
 pub mod Map
-pub mod Answer
 pub mod Sentences
+pub mod Plan
 pub mod Filling

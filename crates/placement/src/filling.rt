@@ -1,175 +1,115 @@
 // The cells, stored one after another into a buffer of zeros: "All other cells are off", and bytes past R·C are 0.
-ghost use Rattle.std.specs.Prelude.{◌≡◌, true, false, ◌+◌, ◌*◌, ◌<◌, ◌≤◌, length, set};
-ghost use Rattle.common.specs.Limits.{max_nodes, max_ids, max_switches};
-ghost use Rattle.common.specs.Labels.{label_b};
-ghost use Rattle.diagram.specs.Table.{entry_in, child_of};
-ghost use Rattle.placement.specs.Filling.{cell_place, edge_place_in, edge_code, with_on, with_edge, with_cells, all_cells, EdgeFits, CellsFit};
+ghost use Rattle.std.specs.Prelude.{◌≡◌, ◌<◌, length, set};
+ghost use Rattle.cells.specs.Code.{code_of};
 
+use crate::Plan;
 use cells::Cell;
-use common::{LABEL_B, MAX_IDS};
-use diagram::Node;
-use diagram::table::{TABLE, entry_at};
-use diagram::wires::{has_column, has_row};
+use common::{LABEL_B, LABEL_H, LABEL_V};
+use diagram::wires::has_wire;
 
-// The edge from an id to its high child, or to its low one.
-#[derive(Clone, Copy)]
-pub struct Edge {
-    pub id: usize,
-    pub high: bool,
+// Writes one cell. Nothing else writes to the buffer once `map` has filled it with zeros. It asks that the place is there, where the `store` of
+// load, whose buffer may be too short, passes over a place that is not.
+fn store(cells: &mut [u8], at: usize, cell: Cell)
+    requires within { at < length cells.old }
+    requires code { code_of cell < 256 }
+    ensures { cells.new ≡ set cells.old at (code_of cell) }
+{
+    cells[at] = cell.to_code() as u8;
 }
 
-// Where the cell at a row and a column stands in the buffer.
-fn place_of(row: u16, column: u16, width: u16) -> usize
-    ensures { result ≡ row * width + column }
-{
-    row as usize * width as usize + column as usize
-}
+// The buffer is handed to each function and is no part of the plan: a plan is only read, and the record is made of it when the cells are stored.
+// That an id is the diagram's is a clause of each function that takes one: a type of such ids would have to name its diagram.
+impl Plan<'_> {
+    ghost use Rattle.std.specs.Prelude.{◌≡◌, ◌≢◌, ◌+◌, ◌*◌, ◌<◌, ◌≤◌, length, set};
+    ghost use Rattle.common.specs.Labels.{label_b};
+    ghost use Rattle.common.specs.Lists.{zeros, padded};
+    ghost use Rattle.cells.specs.Code.{code_of};
+    ghost use Rattle.diagram.specs.Diagram.{id_count, label_at};
+    ghost use Rattle.diagram.specs.Wires.{has_wire, row_count, column_count};
+    ghost use Rattle.placement.specs.Placement.{cells as codes};
+    ghost use Rattle.placement.specs.Filling.{cell_place, edge_place, with_on, with_edge, with_cells};
 
-// Where the cell at the row of one id and the column of another stands in the buffer.
-fn cell_place(
-    rows: &[u16; MAX_IDS],
-    columns: &[u16; MAX_IDS],
-    width: u16,
-    i: usize,
-    k: usize,
-) -> usize
-    requires { (i < max_ids) × (k < max_ids) }
-    ensures { result ≡ cell_place rows.now columns.now width i k }
-{
-    place_of(rows[i], columns[k], width)
-}
-
-// Where the cell of the edge from a node to a child stands: "at the parent's row and child's column if both exist, otherwise at the
-// child's row and parent's column".
-fn edge_place(
-    table: &[u16; TABLE],
-    rows: &[u16; MAX_IDS],
-    columns: &[u16; MAX_IDS],
-    width: u16,
-    id: usize,
-    child: usize,
-) -> usize
-    requires { (id < max_ids) × (child < max_ids) }
-    ensures { result ≡ edge_place_in table.now rows.now columns.now width id child }
-{
-    let parent = entry_at(table, id);
-    let below = entry_at(table, child);
-    let row = has_row(parent.t);
-    let column = has_column(below.t);
-    if row && column {
-        cell_place(rows, columns, width, id, child)
-    } else {
-        cell_place(rows, columns, width, child, id)
+    // Where the cell at the row of one id and the column of another stands in the buffer.
+    #[tactic(auto, using(crate::proofs::Plans::plans), unfolding(crate::specs::Filling::cell_place))]
+    fn cell_place(&self, i: usize, k: usize) -> usize
+        requires { (i < id_count self.now) × (k < id_count self.now) }
+        ensures { result ≡ cell_place self.now i k }
+    {
+        let wires = self.wires;
+        usize::from(wires[i].row) * usize::from(self.job.columns) + usize::from(wires[k].column)
     }
-}
 
-// The child that an edge leads to.
-fn child_of(node: Node, high: bool) -> u16
-    ensures { result ≡ child_of high node }
-{
-    if high { node.h } else { node.l }
-}
-
-// The code of an edge from a node that tests switch x: "`no X` for L and `yes X` for H".
-fn edge_code(high: bool, x: u16) -> u8
-    requires { x < max_switches }
-    ensures { result ≡ edge_code high x }
-{
-    if high {
-        Cell::Yes(x as u8).to_code() as u8
-    } else {
-        Cell::No(x as u8).to_code() as u8
+    // The on cell of an id. "A `b` label has an on cell where its own row and column meet."
+    #[tactic(auto, using(crate::proofs::Plans::plans), unfolding(crate::specs::Filling::with_on, crate::specs::Filling::store_if, crate::specs::Sentences::has_both, cells::specs::Code::code_of))]
+    fn on_cell(&self, id: usize, cells: &mut [u8])
+        requires id { id < id_count self.now }
+        requires within { label_at self.now id ≡ label_b → cell_place self.now id id < length cells.old }
+        ensures { cells.new ≡ with_on self.now id cells.old }
+    {
+        if self.diagram.entry(id).t == LABEL_B {
+            store(cells, self.cell_place(id, id), Cell::On);
+        }
     }
-}
 
-// Writes one cell; nothing else writes to the buffer.
-fn store(cells: &mut [u8], at: usize, code: u8)
-    requires { at < length cells.old }
-    ensures { cells.new ≡ set cells.old at code }
-{
-    cells[at] = code;
-}
-
-// The on cell of one id: "A `b` label has an on cell where its own row and column meet."
-fn on_cell(
-    table: &[u16; TABLE],
-    rows: &[u16; MAX_IDS],
-    columns: &[u16; MAX_IDS],
-    width: u16,
-    id: usize,
-    cells: &mut [u8],
-)
-    requires id_lt_max_ids { id < max_ids }
-    requires id_in_bounds { (entry_in table.now id).t ≡ label_b → cell_place rows.now columns.now width id id < length cells.old }
-    ensures { cells.new ≡ with_on table.now rows.now columns.now width id cells.old }
-{
-    let node = entry_at(table, id);
-    if node.t == LABEL_B {
-        let at = cell_place(rows, columns, width, id, id);
-        store(cells, at, Cell::ON);
+    // Whether an id has a wire of one kind, that of `h` for rows and that of `v` for columns.
+    #[tactic(auto, using(crate::proofs::Plans::plans))]
+    fn has_wire(&self, kind: u16, id: usize) -> bool
+        ensures { result ≡ has_wire kind self.now id }
+    {
+        has_wire(kind, self.diagram.entry(id).t)
     }
-}
 
-// The cell of an edge. "Terminal 0 has no wire, and edges to it have no cell."
-fn edge_cell(
-    table: &[u16; TABLE],
-    rows: &[u16; MAX_IDS],
-    columns: &[u16; MAX_IDS],
-    width: u16,
-    edge: Edge,
-    cells: &mut [u8],
-)
-    requires id_lt_max_ids { edge.id < max_ids }
-    requires edge_fits { EdgeFits table.now rows.now columns.now width edge.high edge.id (length cells.old) }
-    ensures { cells.new ≡ with_edge table.now rows.now columns.now width edge.high edge.id cells.old }
-{
-    let id = edge.id;
-    let node = entry_at(table, id);
-    let child = child_of(node, edge.high);
-    if child != 0 {
-        let at = edge_place(table, rows, columns, width, id, child as usize);
-        let code = edge_code(edge.high, node.x);
-        store(cells, at, code);
+    // Where the cell of the edge from a node to a child stands: "at the parent's row and child's column if both exist, otherwise at the child's row
+    // and parent's column".
+    #[tactic(auto, unfolding(crate::specs::Filling::edge_place, diagram::specs::Wires::has_row, diagram::specs::Wires::has_column))]
+    fn edge_place(&self, id: usize, child: usize) -> usize
+        requires { (id < id_count self.now) × (child < id_count self.now) }
+        ensures { result ≡ edge_place self.now id child }
+    {
+        if self.has_wire(LABEL_H, id) && self.has_wire(LABEL_V, child) {
+            self.cell_place(id, child)
+        } else {
+            self.cell_place(child, id)
+        }
     }
-}
 
-// The cells of one node.
-fn node_cells(
-    table: &[u16; TABLE],
-    rows: &[u16; MAX_IDS],
-    columns: &[u16; MAX_IDS],
-    width: u16,
-    id: usize,
-    cells: &mut [u8],
-)
-    requires id_lt_max_ids { id < max_ids }
-    requires id_in_bounds { (entry_in table.now id).t ≡ label_b → cell_place rows.now columns.now width id id < length cells.old }
-    requires edge_fits { EdgeFits table.now rows.now columns.now width false id (length cells.old) }
-    requires edge_fits_2 { EdgeFits table.now rows.now columns.now width true id (length cells.old) }
-    ensures { cells.new ≡ with_cells table.now rows.now columns.now width id cells.old }
-{
-    on_cell(table, rows, columns, width, id, cells);
-    edge_cell(table, rows, columns, width, Edge { id, high: false }, cells);
-    edge_cell(table, rows, columns, width, Edge { id, high: true }, cells);
-}
+    // The cell of that edge. "Terminal 0 has no wire, and edges to it have no cell."
+    #[tactic(auto, unfolding(crate::specs::Filling::with_edge, crate::specs::Filling::store_if))]
+    fn edge_cell(&self, id: usize, child: usize, cell: Cell, cells: &mut [u8])
+        requires ids { (id < id_count self.now) × (child < id_count self.now) }
+        requires within { child ≢ 0 → edge_place self.now id child < length cells.old }
+        requires code { code_of cell < 256 }
+        ensures { cells.new ≡ with_edge self.now id child cell cells.old }
+    {
+        if child != 0 {
+            store(cells, self.edge_place(id, child), cell);
+        }
+    }
 
-// All cells of terminal 1 and of n nodes.
-pub fn all_cells(
-    table: &[u16; TABLE],
-    rows: &[u16; MAX_IDS],
-    columns: &[u16; MAX_IDS],
-    width: u16,
-    n: usize,
-    cells: &mut [u8],
-)
-    requires n_le_max_nodes { n ≤ max_nodes }
-    requires cells_fit { CellsFit table.now rows.now columns.now width n (length cells.old) }
-    ensures { cells.new ≡ all_cells table.now rows.now columns.now width n cells.old }
-{
-    on_cell(table, rows, columns, width, 1, cells);
-    let mut k = 0;
-    while k < n {
-        node_cells(table, rows, columns, width, k + 2, cells);
-        k += 1;
+    // The cells of a node: its on cell, and those of its edges, "`no X` for L and `yes X` for H".
+    #[tactic(auto, using(crate::proofs::Plans::plans, crate::proofs::Wanted::own_within), unfolding(crate::specs::Filling::with_cells))]
+    fn node_cells(&self, id: usize, cells: &mut [u8])
+        requires id { (2 ≤ id) × (id < id_count self.now) }
+        requires room { row_count self.now * column_count self.now ≤ length cells.old }
+        ensures { cells.new ≡ with_cells self.now id cells.old }
+    {
+        let node = self.diagram.entry(id);
+        let x = node.x as u8;
+        self.on_cell(id, cells);
+        self.edge_cell(id, usize::from(node.l), Cell::No(x), cells);
+        self.edge_cell(id, usize::from(node.h), Cell::Yes(x), cells);
+    }
+
+    // All cells, those of terminal 1 and of the nodes, into a buffer of zeros.
+    #[tactic(auto, using(crate::proofs::Plans::plans, crate::proofs::Wanted::own_within, crate::proofs::Stores::nodes_more), unfolding(crate::specs::Filling::with_nodes, diagram::specs::Diagram::id_count))]
+    pub(crate) fn all_cells(&self, cells: &mut [u8])
+        requires zero { cells.old ≡ zeros (length cells.old) }
+        requires room { row_count self.now * column_count self.now ≤ length cells.old }
+        ensures { cells.new ≡ padded (length cells.old) (codes self.now) }
+    {
+        self.on_cell(1, cells);
+        for id in 2..self.diagram.id_count() {
+            self.node_cells(id, cells);
+        }
     }
 }

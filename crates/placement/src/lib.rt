@@ -1,16 +1,31 @@
 // Placement: from a job to its crossbar.
 #![tactic(auto)]
 
-pub mod filling; // filling.rt: the cells, stored one after another
-pub mod record; // record.rt: the record of a crossbar
+mod filling; // filling.rt: the cells, stored one after another
 pub mod mapping; // mapping.rt: the call map
+mod record; // record.rt: the record of a crossbar
 
-use cells::Crossbar;
-use common::Refusal;
+use common::MAX_IDS;
+use diagram::{Diagram, IdWires};
+use jobs::Job;
+use std::marker::Model;
 
-// Map's answer: the refusal, and the record, zeros after a refusal.
-#[derive(Clone, Copy)]
-pub struct Mapped {
-    pub refusal: Refusal,
-    pub head: Crossbar,
+// What is placed: an accepted job, the diagram of its nodes, and the numbers of its wires by id.
+#[derive(Drop)]
+pub(crate) struct Plan<'a> {
+    job: &'a Job,
+    diagram: Diagram<'a>,
+    wires: &'a [IdWires; MAX_IDS],
+}
+
+impl<'a> Model for Plan<'a> {
+    ghost use Rattle.diagram.specs.Diagram as law;
+
+    ghost Value = { law.Diagram };
+
+    ghost use Rattle.placement.specs.Plan.{planned, IsPlan};
+
+    ghost view = { planned };
+
+    ghost invariant = { IsPlan };
 }

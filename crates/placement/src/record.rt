@@ -1,39 +1,41 @@
 // The record of a crossbar.
-ghost use Rattle.std.specs.Prelude.{◌≡◌, ℕ, ◌<◌, ◌≤◌, length, get_or};
-ghost use Rattle.common.specs.Limits.{max_ids, max_outputs};
-ghost use Rattle.placement.specs.Filling.{out_row_in, head_from};
-
+use crate::Plan;
 use cells::Crossbar;
-use common::{MAX_IDS, MAX_OUTPUTS};
-use jobs::Job;
+use std::array;
 
-// The row of an output: that of the id it names, or for id 0 the last of the r rows, without cells.
-fn out_row(rows: &[u16; MAX_IDS], r: u16, id: usize) -> u16
-    requires { (id < max_ids) × (0 < r) }
-    ensures { result ≡ out_row_in rows.now r id }
-{
-    if id == 0 { r - 1 } else { rows[id] }
-}
+impl Plan<'_> {
+    ghost use Rattle.std.specs.Prelude.{◌≡◌, get_or, map};
+    ghost use Rattle.placement.specs.Placement.{out_row, crossbar};
 
-// R, C, V, K and the output rows.
-pub fn head_of(rows: &[u16; MAX_IDS], job: Job) -> Crossbar
-    requires outputs_le_max_outputs { (job.outputs ≤ max_outputs) × (job.outputs ≤ length job.outs) × (0 < job.rows) }
-    requires by_index { (j : ℕ) → j < job.outputs → get_or job.outs j 0 < max_ids }
-    ensures { result ≡ head_from rows.now job }
-{
-    let outs = job.outs;
-    let k = job.outputs as usize;
-    let mut out_rows = [0u16; MAX_OUTPUTS];
-    let mut j = 0;
-    while j < k {
-        out_rows[j] = out_row(rows, job.rows, outs[j] as usize);
-        j += 1;
+    // The row of an output: that of the id it names, or for id 0 the last row, without cells. Past the last output it is 0.
+    #[tactic(auto, using(crate::proofs::Plans::plans, crate::proofs::Heads::rows))]
+    fn out_row(&self, j: usize) -> u16
+        ensures { result ≡ get_or (map (out_row self.now) self.now.outs) j 0 }
+    {
+        let job = self.job;
+        if j >= usize::from(job.outputs) {
+            return 0;
+        }
+        let id = job.outs[j];
+        if id == 0 {
+            job.rows - 1
+        } else {
+            self.wires[usize::from(id)].row
+        }
     }
-    Crossbar {
-        rows: job.rows,
-        columns: job.columns,
-        switches: job.switches,
-        outputs: job.outputs,
-        outs: out_rows,
+
+    // R, C, V, K and the output rows.
+    #[tactic(auto, using(crate::proofs::Plans::plans, crate::proofs::Plans::head_is))]
+    pub(crate) fn head(&self) -> Crossbar
+        ensures { result ≡ crossbar self.now }
+    {
+        let job = self.job;
+        Crossbar {
+            rows: job.rows,
+            columns: job.columns,
+            switches: job.switches,
+            outputs: job.outputs,
+            outs: array::from_fn(|j| self.out_row(j)),
+        }
     }
 }

@@ -3,27 +3,25 @@ use Prim.Native.Nat.{ℕ, suc, ◌+◌, ◌*◌, ◌≤◌}
 use mathlib.Core.Path.{◌≡◌, refl}
 use mathlib.Core.List.{List, [], ◌∷◌}
 use native.Mathlib.Omega.{arith}
-use lib.ListN.{length, take, length-append, length-replicate, length-take}
+use lib.ListN.{length, take, length-append, length-take}
 use Rattle.common.specs.Limits.{max_rows, max_columns, max_outputs, max_text}
-use Rattle.common.specs.Lists.{zeros}
-use Rattle.common.specs.Outcome.{Outcome, done, refused, ◌then◌}
+use Rattle.common.specs.Outcome.{Outcome, done, refused}
 use Rattle.common.proofs.Outcome.{then_done, unless_done}
 use Rattle.figures.specs.Bytes.{bytes}
 use Rattle.figures.specs.Line.{lines_of}
 use Rattle.figures.proofs.Writing.{length_most}
 use Rattle.cells.specs.declared.Crossbar.{Crossbar}
 use Rattle.cells.specs.Record.{Whole}
-use Rattle.forms.specs.Due.{Taken}
 use Rattle.forms.specs.Template.{written, line}
 use Rattle.forms.specs.Forms.{refused_form, rounds_form, reads_form}
 use Rattle.placement.specs.Map.{map_job}
 use Rattle.conduction.specs.Light.{Lit, light}
 use Rattle.listings.specs.Listing.{listing}
-use Rattle.listings.specs.Loading.{Listed, load_from, record_of, cells_of}
+use Rattle.listings.specs.Loading.{load_from}
 use Rattle.listings.proofs.Lengths.{end_most, listing_most}
 use Rattle.programs.specs.Programs.{program_text, input_fits, map_program, set_line, reading, reads_lines, readings, light_and_read, light_program}
 use Rattle.programs.specs.Texts.{whole_or_none}
-use Rattle.programs.proofs.Printing.{map_maps, light_outputs}
+use Rattle.programs.proofs.Printing.{mapping, map_maps, light_outputs, whole, lighting}
 use Rattle.programs.proofs.Texts.{room_fits}
 
 -- the bytes of each line
@@ -65,12 +63,9 @@ program_text_most (refused k n) h = omega (arith, refused_most k n)
 -- the first program
 pub map_most : (s : List ℕ) → length (map_program s) ≤ max_text
 unfolding map_program input_fits
-map_most s = program_text_most (input_fits s (map_job s (max_rows * max_columns) then λ w. done (listing w.head w.codes))) at_most
+map_most s = program_text_most (input_fits s (mapping s)) at_most
   where
-    at_most :
-        (t : List ℕ)
-        → input_fits s (map_job s (max_rows * max_columns) then λ w. done (listing w.head w.codes)) ≡ done t
-        → length t ≤ max_text
+    at_most : (t : List ℕ) → input_fits s (mapping s) ≡ done t → length t ≤ max_text
     at_most t h =
         let u = unless_done _ 0 _ t h in
         let m = then_done (map_job s (max_rows * max_columns)) _ t u.1 in
@@ -91,21 +86,14 @@ light_read_most setting w t h =
 
 pub light_most : (s : List ℕ) → length (light_program s) ≤ max_text
 unfolding light_program input_fits
-light_most s =
-    program_text_most (input_fits s (set_line (lines_of s) then λ o. load_from 2 o.later then follow o)) at_most
+light_most s = program_text_most (input_fits s (lighting s)) at_most
   where
-    follow : Taken → Listed → Outcome (List ℕ)
-    follow o x = light_and_read o.vals (record { head = record_of x; codes = cells_of x })
-
-    at_most :
-        (t : List ℕ)
-        → input_fits s (set_line (lines_of s) then λ o. load_from 2 o.later then follow o) ≡ done t
-        → length t ≤ max_text
+    at_most : (t : List ℕ) → input_fits s (lighting s) ≡ done t → length t ≤ max_text
     at_most t h =
         let u = unless_done _ 0 _ t h in
         let l = then_done (set_line (lines_of s)) _ t u.1 in
         let y = then_done (load_from 2 l.0.later) _ t l.2 in
-        light_read_most l.0.vals _ t y.2
+        light_read_most l.0.vals (whole y.0) t y.2
 
 -- so each text is handed over whole into a buffer of that many bytes
 pub map_whole : (s : List ℕ) (room : ℕ) → max_text ≤ room → whole_or_none room (map_program s) ≡ done (map_program s)
@@ -115,7 +103,3 @@ map_whole s room h = room_fits room (length (map_program s)) (map_program s) (om
 pub light_whole : (s : List ℕ) (room : ℕ) → max_text ≤ room → whole_or_none room (light_program s) ≡ done (light_program s)
 unfolding whole_or_none
 light_whole s room h = room_fits room (length (light_program s)) (light_program s) (omega (arith, light_most s))
-
--- a buffer of that many zeros
-pub zeros_hold : max_text ≤ length (zeros max_text)
-zeros_hold = rw (length-replicate {A = ℕ} max_text 0) (omega arith)

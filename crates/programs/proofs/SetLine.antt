@@ -1,37 +1,33 @@
 -- The set line, read figure by figure: how many blanks follow a position says how many figures do.
-use Prim.Native.Nat.{ℕ, zero, suc, ◌+◌, ◌-◌, ◌≤◌, ◌<◌}
+use Prim.Native.Nat.{ℕ, zero, suc, ◌+◌, ◌≤◌, ◌<◌}
 use mathlib.Core.Path.{◌≡◌, refl, sym, ap, ◌∙◌}
 use mathlib.Core.Logic.{◌⊎◌, inl, inr, ⊎_elim}
 use mathlib.Core.Bool.{true, false, ◌&&◌}
 use mathlib.Core.Option.{Option, some, none, map}
 use mathlib.Core.List.{List, [], ◌∷◌, ◌++◌, append_assoc, append-nil}
 use native.Mathlib.Omega.{arith}
-use native.Mathlib.Numerals.{add-one}
-use lib.ListN.{length, get_or, take, drop, set, length-append, length-drop, drop_of_length-le, get_or-eq_default}
-use lib.Seq.{drop-cons, set_at}
+use lib.ListN.{length, take, set, length-append, length-set}
+use lib.Seq.{length-take-le}
 use lib.Dec.{eqb, leb}
-use borrow.Author.Tests.{eqb-true, eqb-false, ne_eqb, le-leb, lt-leb, leb-true}
+use borrow.Author.Tests.{ne_eqb, le-leb, lt-leb}
+use Rattle.std.proofs.lemmas.List.{take_more_set}
+use Rattle.std.specs.Prelude as std
+use Rattle.std.specs.Prelude.{Some, None, MatchOption}
 use Rattle.common.specs.Limits.{max_switches}
-use Rattle.common.specs.Lists.{zeros, padded, all_of}
-use Rattle.common.specs.Outcome.{Outcome, done, refused, lowest, unless, number_of, line_of, refusal_of, value_of, buffer_of}
-use Rattle.common.proofs.Lists.{and_left, and_right, and_both, and-false, by_test, below_or_not, all_of_append, all_of_single}
+use Rattle.common.specs.Lists.{all_of}
+use Rattle.common.specs.Outcome.{done, refused, lowest, unless}
+use Rattle.common.proofs.Lists.{and_left, and_right, and-false, by_test, equal_or_not, all_of_append, all_of_single}
 use Rattle.figures.specs.Bytes.{bytes, after}
 use Rattle.figures.specs.Figure.{Figured, is_digit, take_figure, decimal}
-use Rattle.figures.specs.Line.{Lines, left, ◌⏎◌, lines_of, line_end}
-use Rattle.figures.specs.Position.{figure_at, stands}
-use Rattle.figures.specs.declared.Figure.TheVariants.{At, Missing}
+use Rattle.figures.specs.Line.{Lines, left, ◌⏎◌, lines_of}
 use Rattle.figures.proofs.Decimals.{decimal-bytes, decimal_taken}
-use Rattle.figures.proofs.Digits.{digit_range, figure_missing, figure_taken, figure_inside}
-use Rattle.figures.proofs.Ends.{line_ended, line_left}
-use Rattle.figures.proofs.Words.{after_same, after_other, after_front, after_taken, after_standing, after_absent}
-use Rattle.forms.specs.Due.{Taken}
+use Rattle.figures.proofs.Digits.{digit_range}
+use Rattle.figures.proofs.Words.{after_same, after_other, after_front, after_taken}
 use Rattle.forms.specs.Template.{figure, values}
 use Rattle.forms.specs.Forms.{set_figures, set_form}
 use Rattle.forms.proofs.Template.{values_word, values_figure, word_none, figure_none}
-use Rattle.programs.specs.declared.setting.SetLine.{SetLine}
 use Rattle.programs.specs.Programs.{blanks, set_line}
-use Rattle.programs.specs.Setting.{no_set, set_of}
-use Rattle.figures.proofs.Line.{after_first}
+use Rattle.programs.specs.Setting.{SetIs}
 
 -- bytes that are no blanks
 blanks_other : (b : ℕ) (s : List ℕ) → (b ≡ 32 → ⊥) → blanks (b ∷ s) ≡ blanks s
@@ -105,54 +101,36 @@ figures_none : figures_in [] ≡ none
 unfolding figures_in blanks set_figures values bytes after
 figures_none = refl
 
--- the answer for figures that were found
-unfoldable pub set_found : List ℕ → SetLine
-set_found vs = record { refusal = record { number = 0; line = 0 }; count = length vs; figures = padded max_switches vs }
-
-pub set_done : (o : Taken) → set_of (done o) ≡ set_found o.vals
-unfolding set_of set_found refusal_of number_of line_of value_of buffer_of
-set_done o = refl
-
--- the answer for the figures of a line
-unfoldable pub answer : Option (List ℕ) → SetLine
-answer none = no_set
-answer (some vs) = elim (leb (length vs) max_switches && all_of (λ b. leb b 1) vs) [ true ↦ set_found vs | false ↦ no_set ]
-
-pub line_answer : (l : List ℕ) (ls : Lines) → set_of (set_line (l ⏎ ls)) ≡ answer (values (set_form (blanks l)) l)
-unfolding set_line answer lowest unless
-line_answer l ls = by (values (set_form (blanks l)) l) refl
-  where
-    by :
-        (o : Option (List ℕ))
-        → values (set_form (blanks l)) l ≡ o
-        → set_of (set_line (l ⏎ ls)) ≡ answer o
-    by none e = rw (e, set_line)
-    by (some vs) e =
-        ⊎_elim
-        (λ (h : leb (length vs) max_switches && all_of (λ b. leb b 1) vs ≡ true).
-        rw (e, h, set_line, answer) (set_done (record { vals = vs; later = ls })))
-        (λ (h : leb (length vs) max_switches && all_of (λ b. leb b 1) vs ≡ false). rw (e, h, set_line, answer))
-        (by_test (leb (length vs) max_switches && all_of (λ b. leb b 1) vs))
-
--- more figures than switches, and a figure above 1
-answer_many : (vs : List ℕ) → max_switches < length vs → answer (some vs) ≡ no_set
-unfolding answer
-answer_many vs h = rw (lt-leb (length vs) max_switches h, answer)
-
 high_among : (us : List ℕ) (v : ℕ) (vs : List ℕ) → 1 < v → all_of (λ b. leb b 1) (us ++ v ∷ vs) ≡ false
 unfolding all_of
 high_among [] v vs h = rw (lt-leb v 1 h)
 high_among (u ∷ us) v vs h = rw (high_among us v vs h) (and-false (leb u 1))
 
-answer_high : (us : List ℕ) (v : ℕ) (vs : List ℕ) → 1 < v → answer (some (us ++ v ∷ vs)) ≡ no_set
-unfolding answer
-answer_high us v vs h =
-    rw (high_among us v vs h, and-false (leb (length (us ++ v ∷ vs)) max_switches), answer)
+-- the set line by the figures of its line: none, as many as there may be, too many, and one above 1
+module _ (l : List ℕ) (ls : Lines) where
+  line_none : values (set_form (blanks l)) l ≡ none → set_line (l ⏎ ls) ≡ refused 1 1
+  unfolding set_line
+  line_none e = rw (e, set_line)
 
-answer_found : (vs : List ℕ) → length vs ≤ max_switches → all_of (λ b. leb b 1) vs ≡ true → answer (some vs) ≡ set_found vs
-unfolding answer
-answer_found vs h k =
-    rw (and_both (leb (length vs) max_switches) (all_of (λ b. leb b 1) vs) (le-leb (length vs) max_switches h) k, answer)
+  line_found :
+      (vs : List ℕ)
+      → values (set_form (blanks l)) l ≡ some vs
+      → length vs ≤ max_switches
+      → all_of (λ b. leb b 1) vs ≡ true
+      → set_line (l ⏎ ls) ≡ done (record { vals = vs; later = ls })
+  unfolding set_line lowest unless
+  line_found vs e h k = rw (e, le-leb (length vs) max_switches h, k, set_line)
+
+  line_refused : (vs : List ℕ) → values (set_form (blanks l)) l ≡ some vs → (leb (length vs) max_switches && all_of (λ b. leb b 1) vs) ≡ false → set_line (l ⏎ ls) ≡ refused 1 1
+  unfolding set_line lowest unless
+  line_refused vs e h = rw (e, h, set_line)
+
+  line_many : (vs : List ℕ) → values (set_form (blanks l)) l ≡ some vs → max_switches < length vs → set_line (l ⏎ ls) ≡ refused 1 1
+  line_many vs e h = line_refused vs e (rw (lt-leb (length vs) max_switches h))
+
+  line_high : (us vs : List ℕ) (v : ℕ) → values (set_form (blanks l)) l ≡ some (us ++ v ∷ vs) → 1 < v → set_line (l ⏎ ls) ≡ refused 1 1
+  line_high us vs v e h =
+      line_refused (us ++ v ∷ vs) e (rw (high_among us v vs h) (and-false (leb (length (us ++ v ∷ vs)) max_switches)))
 
 -- figures in front of those that follow
 unfoldable pub ahead : List ℕ → Option (List ℕ) → Option (List ℕ)
@@ -168,198 +146,151 @@ unfolding ahead
 ahead_more us v none = refl
 ahead_more us v (some vs) = ap some (sym (append_assoc us (v ∷ []) vs))
 
-ahead_many : (us : List ℕ) (v : ℕ) (o : Option (List ℕ)) → max_switches ≤ length us → answer (ahead us (map (λ vs. v ∷ vs) o)) ≡ no_set
-unfolding ahead answer
-ahead_many us v none h = refl
-ahead_many us v (some vs) h = answer_many (us ++ v ∷ vs) (simp length-append (omega arith))
-
-ahead_high : (us : List ℕ) (v : ℕ) (o : Option (List ℕ)) → 1 < v → answer (ahead us (map (λ vs. v ∷ vs) o)) ≡ no_set
-unfolding ahead answer
-ahead_high us v none h = refl
-ahead_high us v (some vs) h = answer_high us v vs h
-
--- one figure more among the switches
-set-padded :
-    (us : List ℕ) (v count : ℕ)
-    → length us ≡ count
-    → count < max_switches
-    → set (padded max_switches us) count v ≡ padded max_switches (us ++ (v ∷ []))
-unfolding padded
-set-padded us v count e h =
-    let k : ℕ = max_switches - (length us + 1) in
-    let p : max_switches - length us ≡ suc k = omega arith in
-    let q : max_switches - length (us ++ (v ∷ [])) ≡ k = simp length-append (omega arith) in
-    rw (p, q, append_assoc) (set_at us 0 (zeros k) v count e)
-
--- the line l is read up to `at`: the figures seen so far, which `found` holds, and those that are left
-pub record Reading (l found : List ℕ) (count at : ℕ) : Type 0 where
-  pub seen : List ℕ
-  pub counted : length seen ≡ count
-  pub few : count ≤ max_switches
-  pub held : found ≡ padded max_switches seen
-  pub low : all_of (λ b. leb b 1) seen ≡ true
-  pub inside : at ≤ length l
-  pub so_far : values (set_form (blanks l)) l ≡ ahead seen (figures_in (drop at l))
+-- the line l is read: `found` begins with the first `count` figures of it, and `rest` is left
+pub record Reading (l rest found : List ℕ) (count : ℕ) : Type 0 where
+  pub long : length found ≡ max_switches
+  pub low : all_of (λ b. leb b 1) (take count found) ≡ true
+  pub so_far : values (set_form (blanks l)) l ≡ ahead (take count found) (figures_in rest)
 
 module _ (l : List ℕ) where
-  -- the line does not begin with the word
-  pub reading_other : stands (bytes "(set") l 0 ≡ false → no_set ≡ set_of (set_line (l ⏎ left []))
-  unfolding set_form answer
-  reading_other h =
-      sym (line_answer l (left []) ∙ ap answer (word_none "(set" (set_figures (blanks l)) l (after_absent (bytes "(set") l 0 h)))
+  -- the line does not begin with the word, and does
+  pub reading_other : (found : List ℕ) → after (bytes "(set") l ≡ none → SetIs l None found
+  unfolding set_form SetIs
+  reading_other found h = λ ls. line_none l ls (word_none "(set" (set_figures (blanks l)) l h)
 
-  pub reading-start : stands (bytes "(set") l 0 ≡ true → Reading l (zeros max_switches) 0 4
-  unfolding set_form padded all_of figures_in bytes max_switches
-  reading-start h =
-      let a : after (bytes "(set") l ≡ some (drop 4 l) = after_standing (bytes "(set") l 0 h in
-      let w : l ≡ bytes "(set" ++ drop 4 l = after_taken (bytes "(set") l (drop 4 l) a in
-      let b : blanks l ≡ blanks (drop 4 l) = ap blanks w ∙ set-blanks (drop 4 l) in
+  pub reading_start : (s found : List ℕ) → after (bytes "(set") l ≡ some s → length found ≡ max_switches → Reading l s found 0
+  unfolding set_form all_of figures_in
+  reading_start s found a long =
+      let b : blanks l ≡ blanks s = ap blanks (after_taken (bytes "(set") l s a) ∙ set-blanks s in
       record {
-        seen = [];
-        counted = refl;
-        few = omega arith;
-        held = refl;
+        long = long;
         low = refl;
-        inside = omega (arith, ap length w);
         so_far =
             ap (λ (n : ℕ). values (set_form n) l) b
-            ∙ values_word "(set" (set_figures (blanks (drop 4 l))) l (drop 4 l) a
-            ∙ ahead_nil (values (set_figures (blanks (drop 4 l))) (drop 4 l));
+            ∙ values_word "(set" (set_figures (blanks s)) l s a
+            ∙ ahead_nil (values (set_figures (blanks s)) s);
       }
 
-module _ (l found : List ℕ) (count at : ℕ) (r : Reading l found count at) where
-  answer_is : (o : Option (List ℕ)) → figures_in (drop at l) ≡ o → set_of (set_line (l ⏎ left [])) ≡ answer (ahead r.seen o)
-  answer_is o e = line_answer l (left []) ∙ ap answer (r.so_far ∙ ap (ahead r.seen) e)
+module _ (l rest found : List ℕ) (count : ℕ) (r : Reading l rest found count) where
+  -- a blank, and no figure, one above 1, or one more; where nothing is answered, nothing is said of the buffer
+  module _ (s : List ℕ) (blank : after (bytes " ") rest ≡ some s) where
+    here : rest ≡ 32 ∷ s
+    unfolding bytes
+    here = after_taken (bytes " ") rest s blank
 
-  module _ (blank : eqb (get_or l at 0) 32 ≡ true) where
-    pub blank_inside : at < length l
-    blank_inside =
-        ⊎_elim
-        (λ (h : at < length l). h)
-        (λ (h : length l ≤ at).
-        let e : get_or l at 0 ≡ 0 = get_or-eq_default l 0 h in
-        let f : get_or l at 0 ≡ 32 = eqb-true (get_or l at 0) 32 blank in
-        absurd (omega arith))
-        (below_or_not at (length l))
+    pub reading_missing : (figures : List ℕ) → take_figure s ≡ none → SetIs l None figures
+    unfolding SetIs ahead
+    reading_missing figures h = λ ls. line_none l ls (r.so_far ∙ ap (λ (t : List ℕ). ahead (take count found) (figures_in t)) here ∙ ap (ahead (take count found)) (figures_missing s h))
 
-    here : drop at l ≡ 32 ∷ drop (at + 1) l
-    here =
-        let f : get_or l at 0 ≡ 32 = eqb-true (get_or l at 0) 32 blank in
-        drop-cons l at 0 blank_inside ∙ rw (f, add-one at)
+    module _ (f : Figured) (h : take_figure s ≡ some f) where
+      next : values (set_form (blanks l)) l ≡ ahead (take count found) (map (λ vs. f.figure ∷ vs) (figures_in f.rest))
+      next = r.so_far ∙ ap (λ (t : List ℕ). ahead (take count found) (figures_in t)) here ∙ ap (ahead (take count found)) (figures_more s f h)
 
-    pub reading_missing : figure_at l (at + 1) ≡ Missing → no_set ≡ set_of (set_line (l ⏎ left []))
-    unfolding ahead answer
-    reading_missing h =
-        sym (answer_is none (ap figures_in here ∙ figures_missing (drop (at + 1) l) (figure_missing l (at + 1) h)))
+      pub reading_high : (figures : List ℕ) → 1 < f.figure → SetIs l None figures
+      unfolding SetIs ahead
+      reading_high figures k = λ ls. by ls (figures_in f.rest) next
+        where
+          by : (ls : Lines) (o : Option (List ℕ)) → values (set_form (blanks l)) l ≡ ahead (take count found) (map (λ vs. f.figure ∷ vs) o) → set_line (l ⏎ ls) ≡ refused 1 1
+          by ls none e = line_none l ls e
+          by ls (some vs) e = line_high l ls (take count found) vs f.figure e k
 
-    module _ (v n : ℕ) (h : figure_at l (at + 1) ≡ At v n) where
-      next : figures_in (drop at l) ≡ map (λ vs. v ∷ vs) (figures_in (drop n l))
-      next = ap figures_in here ∙ figures_more (drop (at + 1) l) (record { figure = v; rest = drop n l }) (figure_taken l (at + 1) v n h)
-
-      pub reading_many : count ≡ max_switches → no_set ≡ set_of (set_line (l ⏎ left []))
-      reading_many k = sym (answer_is _ next ∙ ahead_many r.seen v (figures_in (drop n l)) (omega (arith, r.counted)))
-
-      pub reading_high : 1 < v → no_set ≡ set_of (set_line (l ⏎ left []))
-      reading_high k = sym (answer_is _ next ∙ ahead_high r.seen v (figures_in (drop n l)) k)
-
-      pub reading_next : (at < n) × (n ≤ length l)
-      reading_next = let i = figure_inside l (at + 1) v n h in (omega (arith, i.0), i.1)
-
-      pub reading_more : (count ≡ max_switches → ⊥) → v ≤ 1 → Reading l (set found count v) (count + 1) n
+      pub reading_more : count < max_switches → f.figure ≤ 1 → Reading l f.rest (set found count f.figure) (count + 1)
       reading_more k low =
-          let b : count < max_switches =
-          ⊎_elim (λ (q : count < max_switches). q) (λ (q : max_switches ≤ count). let few = r.few in absurd (k (omega arith))) (below_or_not count max_switches)
-          in
+          let t : take (count + 1) (set found count f.figure) ≡ take count found ++ (f.figure ∷ []) = take_more_set found count f.figure (omega (arith, r.long)) in
           record {
-            seen = r.seen ++ (v ∷ []);
-            counted = simp length-append (omega (arith, r.counted));
-            few = omega arith;
-            held = ap (λ (u : List ℕ). set u count v) r.held ∙ set-padded r.seen v count r.counted b;
-            low = all_of_append (λ b. leb b 1) r.seen (v ∷ []) r.low (all_of_single (λ b. leb b 1) v (le-leb v 1 low));
-            inside = reading_next.1;
-            so_far = r.so_far ∙ ap (ahead r.seen) next ∙ ahead_more r.seen v (figures_in (drop n l));
+            long = simp length-set r.long;
+            low = rw t (all_of_append (λ b. leb b 1) (take count found) (f.figure ∷ []) r.low (all_of_single (λ b. leb b 1) f.figure (le-leb f.figure 1 low)));
+            so_far = next ∙ ahead_more (take count found) f.figure (figures_in f.rest) ∙ ap (λ (u : List ℕ). ahead u (figures_in f.rest)) (sym t);
           }
 
-  module _ (blank : eqb (get_or l at 0) 32 ≡ false) where
-    ends_none : (length l ≡ at + 1 → get_or l at 0 ≡ 41 → ⊥) → figures_in (drop at l) ≡ none
-    ends_none k =
-        ⊎_elim
-        (λ (h : at < length l).
-        ap figures_in (drop-cons l at 0 h)
-        ∙ figures_other (get_or l at 0) (drop (suc at) l) (eqb-false (get_or l at 0) 32 blank)
-        (λ (e : get_or l at 0 ≡ 41) (n : drop (suc at) l ≡ []).
-        let d = length-drop (suc at) l in
-        let z : length (drop (suc at) l) ≡ 0 = ap length n in
-        k (omega arith) e))
-        (λ (h : length l ≤ at). ap figures_in (drop_of_length-le l h) ∙ figures_none)
-        (below_or_not at (length l))
+  -- the bracket, and nothing after it
+  pub reading_done : count ≤ max_switches → rest ≡ 41 ∷ [] → SetIs l (Some count) found
+  unfolding SetIs ahead
+  reading_done few e =
+      let within : count ≤ length found = omega (arith, r.long) in
+      let long : length (take count found) ≡ count = length-take-le count found within in
+      let all : values (set_form (blanks l)) l ≡ some (take count found) =
+      r.so_far ∙ ap (λ (t : List ℕ). ahead (take count found) (figures_in t)) e ∙ ap (ahead (take count found)) figures_end ∙ ap some (append-nil (take count found))
+      in
+      (within, λ ls. line_found l ls (take count found) all (omega arith) r.low)
 
-    -- the line does not end with the bracket, or not there
-    pub reading_wrong : (length l ≡ at + 1 → get_or l at 0 ≡ 41 → ⊥) → no_set ≡ set_of (set_line (l ⏎ left []))
-    unfolding ahead answer
-    reading_wrong k = sym (answer_is none (ends_none k))
+  -- anything else, where no figure follows or no more may follow
+  pub reading_wrong :
+      (rest ≡ 41 ∷ [] → ⊥)
+      → ((b : ℕ) (s : List ℕ) → rest ≡ b ∷ s → (b ≡ 32 → ⊥) ⊎ (max_switches ≤ length (take count found)))
+      → SetIs l None found
+  unfolding SetIs ahead
+  reading_wrong unended last = λ ls. by ls rest refl
+    where
+      many : (ls : Lines) (v : ℕ) (o : Option (List ℕ)) → values (set_form (blanks l)) l ≡ ahead (take count found) (map (λ vs. v ∷ vs) o) → max_switches ≤ length (take count found) → set_line (l ⏎ ls) ≡ refused 1 1
+      many ls v none e h = line_none l ls e
+      many ls v (some vs) e h = line_many l ls (take count found ++ v ∷ vs) e (simp length-append (omega arith))
 
-    pub reading_done :
-        length l ≡ at + 1
-        → get_or l at 0 ≡ 41
-        → ◌≡◌ {A = SetLine} (record { refusal = record { number = 0; line = 0 }; count = count; figures = found }) (set_of (set_line (l ⏎ left [])))
-    unfolding ahead set_found
-    reading_done e b =
-        let d : drop at l ≡ 41 ∷ [] = drop-cons l at 0 (omega arith) ∙ rw (b, drop_of_length-le l {i = suc at} (omega arith)) in
-        let f = answer_is (some []) (ap figures_in d ∙ figures_end) in
-        let few : length r.seen ≤ max_switches = omega (arith, r.counted, r.few) in
-        sym (f ∙ rw (append-nil r.seen, answer_found r.seen few r.low, r.counted, ← r.held))
+      gone : (ls : Lines) (t : List ℕ) → rest ≡ t → figures_in t ≡ none → set_line (l ⏎ ls) ≡ refused 1 1
+      gone ls t e n = line_none l ls (r.so_far ∙ ap (λ (u : List ℕ). ahead (take count found) (figures_in u)) e ∙ ap (ahead (take count found)) n)
 
--- the set line of a text: its first line, which decides the figures, or none
-module _ (s : List ℕ) (e : ℕ) (end : e ≡ line_end s 0) where
-  pub set_first : e < length s → set_of (set_line (take (e - 0) (drop 0 s) ⏎ left [])) ≡ set_of (set_line (lines_of s))
-  set_first h =
-      let l = take (line_end s 0 - 0) s in
-      let b : line_end s 0 < length s = rw (← end) h in
-      rw (line_ended s 0 b, end) (line_answer l (left []) ∙ sym (line_answer l (lines_of (drop (line_end s 0 + 1) s))))
+      figure_or_none : (ls : Lines) (s : List ℕ) (o : Option Figured) → rest ≡ 32 ∷ s → max_switches ≤ length (take count found) → take_figure s ≡ o → set_line (l ⏎ ls) ≡ refused 1 1
+      figure_or_none ls s none e h t = gone ls (32 ∷ s) e (figures_missing s t)
+      figure_or_none ls s (some f) e h t =
+          many ls f.figure (figures_in f.rest)
+          (r.so_far ∙ ap (λ (u : List ℕ). ahead (take count found) (figures_in u)) e ∙ ap (ahead (take count found)) (figures_more s f t)) h
 
-  pub set_absent : length s ≤ e → no_set ≡ set_of (set_line (lines_of s))
+      by : (ls : Lines) (t : List ℕ) → rest ≡ t → set_line (l ⏎ ls) ≡ refused 1 1
+      by ls [] e = gone ls [] e figures_none
+      by ls (b ∷ s) e =
+          ⊎_elim
+          (λ (k : b ≡ 32).
+          let blank : rest ≡ 32 ∷ s = e ∙ ap (λ (n : ℕ). n ∷ s) k in
+          ⊎_elim
+          (λ (other : b ≡ 32 → ⊥). absurd (other k))
+          (λ (full : max_switches ≤ length (take count found)). figure_or_none ls s (take_figure s) blank full refl)
+          (last b s e))
+          (λ (k : b ≡ 32 → ⊥). gone ls (b ∷ s) e (figures_other b s k (λ q z. unended (e ∙ rw (q, z)))))
+          (equal_or_not b 32)
+
+  -- no figure follows where no blank does
+  pub reading_ends : (rest ≡ 41 ∷ [] → ⊥) → after (bytes " ") rest ≡ none → SetIs l None found
+  unfolding bytes
+  reading_ends unended h =
+      reading_wrong unended
+      (λ b s e. inl (λ k. let blank : rest ≡ 32 ∷ s = e ∙ ap (λ (n : ℕ). n ∷ s) k in let some_is : after (32 ∷ []) rest ≡ some s = rw blank (after_front (32 ∷ []) s) in cc))
+
+  pub reading_full : (rest ≡ 41 ∷ [] → ⊥) → count ≡ max_switches → SetIs l None found
+  reading_full unended full =
+      let long : length (take count found) ≡ count = length-take-le count found (omega (arith, r.long)) in
+      reading_wrong unended (λ b s e. inr (omega arith))
+
+  -- what is left is tested where no blank follows, or no more figure may
+  pub reading_last :
+      (o : std.Option ℕ) (k : ℕ)
+      → MatchOption o (rest ≡ 41 ∷ [] → ⊥) (λ n. (n ≡ k) × (rest ≡ 41 ∷ []))
+      → count ≡ k
+      → k ≤ max_switches
+      → (after (bytes " ") rest ≡ none) ⊎ (k ≡ max_switches)
+      → SetIs l o found
+  reading_last (Some n) k h is few last = rw (h.0, ← is) (reading_done (omega arith) h.1)
+  reading_last None k h is few (inl bare) = reading_ends h bare
+  reading_last None k h is few (inr full) = reading_full h (omega arith)
+
+pub ruleset reading = (reading_other, reading_start, reading_missing, reading_high, reading_more, reading_last)
+
+-- a text by its first line: where there is none, where its line is refused and where it is not
+module _ (s : List ℕ) where
+  pub set_absent : lines_of s ≡ left s → set_line (lines_of s) ≡ refused 1 1
   unfolding set_line
-  set_absent h = let b : length s ≤ line_end s 0 = rw (← end) h in rw (line_left s 0 b)
+  set_absent h = rw h
 
--- the set line is refused with ground 1 on line 1, or the lines that follow are those after the first
-pub set_told :
-    (ls : Lines)
-    → ((o : Taken) × (set_line ls ≡ done o) × (o.later ≡ after_first ls)) ⊎ (set_line ls ≡ refused 1 1)
-unfolding set_line after_first lowest unless
-set_told (left s) = inr refl
-set_told (l ⏎ ls) = by (values (set_form (blanks l)) l) refl
-  where
-    by :
-        (o : Option (List ℕ))
-        → values (set_form (blanks l)) l ≡ o
-        → ((o : Taken) × (set_line (l ⏎ ls) ≡ done o) × (o.later ≡ ls)) ⊎ (set_line (l ⏎ ls) ≡ refused 1 1)
-    by none e = inr (rw (e, set_line))
-    by (some vs) e =
-        ⊎_elim
-        (λ (h : leb (length vs) max_switches && all_of (λ b. leb b 1) vs ≡ true).
-        inl (record { vals = vs; later = ls }, rw (e, h, set_line), refl))
-        (λ (h : leb (length vs) max_switches && all_of (λ b. leb b 1) vs ≡ false). inr (rw (e, h, set_line)))
-        (by_test (leb (length vs) max_switches && all_of (λ b. leb b 1) vs))
+  module _ (l rest figures : List ℕ) (first : lines_of s ≡ l ⏎ lines_of rest) where
+    pub set_refused : SetIs l None figures → set_line (lines_of s) ≡ refused 1 1
+    unfolding SetIs
+    set_refused h = ap set_line first ∙ h (lines_of rest)
 
--- its figures are at most as many as the switches
-pub set_few : (ls : Lines) (o : Taken) → set_line ls ≡ done o → length o.vals ≤ max_switches
-unfolding set_line lowest unless
-set_few (left s) o h = absurd (let z : ◌≡◌ {A = ℕ} 0 1 = cc in omega arith)
-set_few (l ⏎ ls) o h = by (values (set_form (blanks l)) l) refl
-  where
-    by : (u : Option (List ℕ)) → values (set_form (blanks l)) l ≡ u → length o.vals ≤ max_switches
-    by none e =
-        let f : set_line (l ⏎ ls) ≡ refused 1 1 = rw (e, set_line) in
-        absurd (let z : ◌≡◌ {A = ℕ} 0 1 = cc in omega arith)
-    by (some vs) e =
-        ⊎_elim
-        (λ (k : leb (length vs) max_switches && all_of (λ b. leb b 1) vs ≡ true).
-        let f : set_line (l ⏎ ls) ≡ done (record { vals = vs; later = ls }) = rw (e, k, set_line) in
-        let g : ◌≡◌ {A = Outcome Taken} (done (record { vals = vs; later = ls })) (done o) = sym f ∙ h in
-        let same : ◌≡◌ {A = Taken} (record { vals = vs; later = ls }) o = cc in
-        rw (← same) (leb-true (length vs) max_switches (and_left (leb (length vs) max_switches) (all_of (λ b. leb b 1) vs) k)))
-        (λ (k : leb (length vs) max_switches && all_of (λ b. leb b 1) vs ≡ false).
-        let f : set_line (l ⏎ ls) ≡ refused 1 1 = rw (e, k, set_line) in
-        absurd (let z : ◌≡◌ {A = ℕ} 0 1 = cc in omega arith))
-        (by_test (leb (length vs) max_switches && all_of (λ b. leb b 1) vs))
+    pub set_done : (n : ℕ) → SetIs l (Some n) figures → set_line (lines_of s) ≡ done (record { vals = take n figures; later = lines_of rest })
+    unfolding SetIs
+    set_done n h = ap set_line first ∙ h.1 (lines_of rest)
+
+pub set_within : (l figures : List ℕ) (n : ℕ) → SetIs l (Some n) figures → n ≤ length figures
+unfolding SetIs
+set_within l figures n h = h.0
+
+pub ruleset first = (set_absent, set_refused, set_done, set_within)

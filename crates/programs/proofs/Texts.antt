@@ -1,25 +1,23 @@
 -- What a program hands over for a text that was written into a clear buffer, and the readings part by part.
 use Prim.Native.Nat.{ℕ, ◌+◌, ◌-◌, ◌≤◌, ◌<◌}
 use mathlib.Core.Path.{◌≡◌, refl, sym, ap, ◌∙◌}
-use mathlib.Core.Logic.{⊎_elim}
 use mathlib.Core.List.{List, [], ◌∷◌, ◌++◌}
 use native.Mathlib.Omega.{arith}
 use native.Mathlib.Numerals.{add-one}
-use lib.ListN.{length, get_or, take, length-append, length-replicate}
-use lib.Seq.{slice_empty, slice-cons, take_at}
+use lib.ListN.{length, get_or, take, drop, length-append, length-replicate, drop_of_length-le}
+use lib.Seq.{drop-cons, take_at}
 use borrow.Author.Tests.{le-ltb, lt-ltb, ne_eqb}
+use Rattle.std.specs.Prelude.{Some, None}
 use Rattle.common.specs.Lists.{bit, zeros, padded}
+use Rattle.common.proofs.Lists.{drop-zeros}
 use Rattle.common.specs.Outcome.{Outcome, done, refused, lowest, unless, value_of, buffer_of, Answered}
-use Rattle.common.proofs.Lists.{below_or_not, padded_full}
-use Rattle.figures.specs.Position.{splice}
-use Rattle.cells.specs.declared.Crossbar.{Crossbar}
-use Rattle.conduction.specs.Light.{Lit}
 use Rattle.forms.specs.Template.{line}
-use Rattle.forms.specs.Forms.{rounds_form, reads_form, end_form}
+use Rattle.forms.specs.Forms.{reads_form}
 use Rattle.forms.specs.Written.{Written}
-use Rattle.listings.proofs.Answers.{splice-zeros}
-use Rattle.programs.specs.Programs.{reading, reads_lines, readings}
-use Rattle.programs.specs.Texts.{in_room, whole_or_none, Said, reads_text}
+use Rattle.forms.proofs.Parts.{written_fits}
+use Rattle.figures.specs.Position.{splice}
+use Rattle.programs.specs.Programs.{reading, reads_lines}
+use Rattle.programs.specs.Texts.{in_room, whole_or_none, Said}
 
 pub room_fits : (room n : ℕ) (s : List ℕ) → n ≤ room → in_room room n s ≡ done s
 unfolding in_room lowest unless
@@ -28,10 +26,6 @@ room_fits room n s h = rw (le-ltb room n h)
 pub room_short : (room n : ℕ) (s : List ℕ) → room < n → in_room room n s ≡ refused 14 0
 unfolding in_room lowest unless
 room_short room n s h = rw (lt-ltb room n h)
-
--- the text of what was said, said otherwise
-pub said_as : (room n : ℕ) (out s t : List ℕ) → s ≡ t → Said room s n out → Said room t n out
-said_as room n out s t e h = rw (← e) h
 
 -- what an output reads, by the number of its row
 pub reading-lit : (firsts : List ℕ) (r : ℕ) → (get_or firsts r 0 ≡ 0 → ⊥) → 1 ≡ reading firsts r
@@ -44,51 +38,36 @@ reading_dark firsts r h = rw h
 
 pub ruleset lit_or_dark = (reading-lit, reading_dark)
 
--- no outputs, and one more
-pub reads_text_none : (firsts outs : List ℕ) (j k : ℕ) → j ≡ k → reads_text firsts outs j k ≡ []
-unfolding reads_text reads_lines
-reads_text_none firsts outs j k h = rw (h, slice_empty k outs)
+-- the outputs from one on, and none
+pub reads_more :
+    (firsts rows : List ℕ) (j : ℕ)
+    → j < length rows
+    → reads_lines firsts j (drop j rows) ≡ line reads_form (j ∷ reading firsts (get_or rows j 0) ∷ []) ++ reads_lines firsts (j + 1) (drop (j + 1) rows)
+unfolding reads_lines
+reads_more firsts rows j h = rw (drop-cons rows j 0 h, add-one j)
 
-pub reads_text_more :
-    (firsts outs : List ℕ) (j k : ℕ)
-    → j < k
-    → k ≤ length outs
-    → reads_text firsts outs j k ≡ line reads_form (j ∷ reading firsts (get_or outs j 0) ∷ []) ++ reads_text firsts outs (j + 1) k
-unfolding reads_text reads_lines
-reads_text_more firsts outs j k h l = rw (slice-cons j k outs 0 h l, add-one j)
+pub reads_none : (firsts rows : List ℕ) (j : ℕ) → length rows ≤ j → reads_lines firsts j (drop j rows) ≡ []
+unfolding reads_lines
+reads_none firsts rows j h = rw (drop_of_length-le rows h)
 
--- the first line of the readings, the outputs' and the last one
-pub readings_parts : (x : Crossbar) (a : Lit) → readings x a ≡ (line rounds_form (a.count ∷ []) ++ reads_text a.firsts x.outs 0 x.outputs) ++ line end_form []
-unfolding readings reads_text
-readings_parts x a = refl
+splice-zeros : (room : ℕ) (s : List ℕ) → splice (zeros room) 0 s ≡ padded room s
+unfolding splice padded
+splice-zeros room s = let e : 0 + length s ≡ length s = omega arith in rw e (ap (λ (l : List ℕ). s ++ l) (drop-zeros (length s) room))
 
--- a text written into a buffer that was cleared, and the buffer handed over up to the position past it
-pub said_over :
-    (room n : ℕ) (c t out s : List ℕ) (a : ℕ)
-    → c ≡ zeros room
-    → length t ≡ room
-    → Written c t 0 s a
-    → Answered (in_room (length t) a t) (λ o. value_of {B = ℕ} 0 (λ u. a) o) (λ u. u) (length t) n out
-    → Said room s n out
+-- a text that was written into a clear buffer: what is handed over where it fits, and where it does not
+pub said_there : (t s : List ℕ) (n : ℕ) → Written (zeros (length t)) t 0 s (Some n) → Said (length t) s n t
 unfolding whole_or_none value_of buffer_of
-said_over room n c t out s a z k w h =
-    let l : length c ≡ room = ap length z ∙ length-replicate room 0 in
-    ⊎_elim
-    (λ (short : length t < a).
-    let e = room_short (length t) a t short in
-    let b : length c < 0 + length s = w.beyond (omega arith) in
-    let f = room_short room (length s) s (omega arith) in
-    record { answer = h.answer ∙ rw (e, f); buffer = h.buffer ∙ rw (e, f, k) })
-    (λ (fits : a ≤ length t).
-    let e = room_fits (length t) a t fits in
-    let b = w.within (omega arith) in
-    let q : a ≡ length s = b.0 ∙ omega arith in
-    let f = room_fits room (length s) s (omega arith) in
-    let p : padded (length t) t ≡ padded room s =
-    padded_full (length t) t refl ∙ b.1 ∙ ap (λ (u : List ℕ). splice u 0 s) z ∙ splice-zeros room s
-    in
-    record { answer = h.answer ∙ rw (e, f, q); buffer = h.buffer ∙ rw (e, f) p })
-    (below_or_not (length t) a)
+said_there t s n w =
+    let b = w.within n refl in
+    let q : n ≡ length s = b.0 ∙ omega arith in
+    let f = room_fits (length t) (length s) s (omega (arith, written_fits w (omega arith), length-replicate {A = ℕ} (length t) 0)) in
+    record { answer = q ∙ rw f; buffer = b.1 ∙ splice-zeros (length t) s ∙ rw f }
+
+pub said_not : (t s out : List ℕ) (n : ℕ) → Written (zeros (length t)) t 0 s None → n ≡ 0 → out ≡ zeros (length t) → Said (length t) s n out
+unfolding whole_or_none value_of buffer_of
+said_not t s out n w z e =
+    let f = room_short (length t) (length s) s (omega (arith, w.beyond refl, length-replicate {A = ℕ} (length t) 0)) in
+    record { answer = z ∙ rw f; buffer = e ∙ rw f }
 
 -- the count lies within the buffer, and that many bytes of it are the text where it fits
 pub said_within : (room n : ℕ) (s out : List ℕ) → Said room s n out → n ≤ length out

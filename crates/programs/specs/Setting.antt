@@ -1,18 +1,10 @@
--- The set line's answer as its reader hands it over.
-use Rattle.std.specs.Prelude.{ℕ, length}
-use Rattle.common.specs.Limits.{max_switches}
-use Rattle.common.specs.Outcome.{Outcome, refused, refusal_of, value_of, buffer_of}
-use Rattle.forms.specs.Due.{Taken}
-use Rattle.programs.specs.declared.setting.SetLine.{SetLine}
+-- What the reader of a set line hands over.
+use Rattle.std.specs.Prelude.{ℕ, ◌≡◌, ◌≤◌, List, length, take, Option, Some, None}
+use Rattle.common.specs.Outcome.{done, refused}
+use Rattle.figures.specs.Line.{Lines, ◌⏎◌}
+use Rattle.programs.specs.Programs.{set_line}
 
--- the refusal, the count of the figures, and the figures with zeros past them
-unfoldable pub set_of : Outcome Taken → SetLine
-set_of o = record {
-  refusal = refusal_of o;
-  count = value_of {B = ℕ} 0 (λ t. length t.vals) o;
-  figures = buffer_of max_switches (λ t. t.vals) o;
-}
-
--- for a line that is missing or not the form due
-abbrev pub no_set : SetLine
-no_set = set_of (refused 1 1)
+-- nothing for a line that is refused, and otherwise how many figures of the line the buffer now begins with
+unfoldable pub SetIs : (l : List ℕ) (count : Option ℕ) (figures : List ℕ) → Type 0
+SetIs l None figures = (ls : Lines) → set_line (l ⏎ ls) ≡ refused 1 1
+SetIs l (Some n) figures = (n ≤ length figures) × ((ls : Lines) → set_line (l ⏎ ls) ≡ done (record { vals = take n figures; later = ls }))

@@ -4,12 +4,13 @@
 pub mod readings; // readings.rt: the lines that a program prints
 pub mod setting; // setting.rt: the set line
 
-ghost use Rattle.std.specs.Prelude.{length};
-ghost use Rattle.programs.specs.Programs.{program_text, map_program, light_and_read, light_program};
-ghost use Rattle.programs.specs.Texts.{Said};
+ghost use Rattle.std.specs.Prelude.{List, ℕ, length};
+ghost use Rattle.common.specs.Fault.{Goes};
+ghost use Rattle.common.specs.Outcome.{Outcome};
+ghost use Rattle.programs.specs.Programs.{input_fits, map_program, light_program};
+ghost use Rattle.programs.specs.Texts.{Said, Tells};
 
-use cells::Crossbar;
-use common::{MAX_COLUMNS, MAX_INPUT, MAX_ROWS, Refusal};
+use common::{Fault, MAX_COLUMNS, MAX_INPUT, MAX_ROWS, MAX_SWITCHES, Refusal};
 use conduction::lighting::light;
 use listings::loading::load_from;
 use listings::printing::print;
@@ -17,74 +18,69 @@ use placement::mapping::map;
 use readings::{print_readings, refuse};
 use setting::set_line;
 
-// Document 01, "Two programs": "The first reads a job from standard input and prints the listing, or `(refused n line)`."
+// The refusal of a set line: ground 1, line 1.
+const NO_SET: Refusal = Refusal {
+    fault: Fault::NotDue,
+    line: 1,
+};
+
+// Document 01, "Two programs": "In both programs input above 65,535 bytes is `(refused 14 0)`."
+#[tactic(auto, using(crate::proofs::Printing::input_long, crate::proofs::Printing::input_short), unfolding(common::specs::Limits::max_input))]
+fn fits(input: &[u8]) -> Result<(), Refusal>
+    ensures { (rest : Outcome (List ℕ)) → Goes (input_fits input.now rest) result (λ u. rest) }
+{
+    if MAX_INPUT < input.len() {
+        return Err(Fault::NoRoom.at(0));
+    }
+    Ok(())
+}
+
+// The length of a program's text, or of the line of its refusal, which is written now.
+fn told(out: &mut [u8], text: Result<usize, Refusal>) -> usize
+    ensures { (t : List ℕ) → Tells (length out.old) t text out.old → Said (length out.old) t result out.new }
+{
+    match text {
+        Ok(length) => length,
+        Err(refusal) => refuse(out, refusal),
+    }
+}
+
+// The listing of a job. Print refuses only where the buffer is too short for it, and then no byte is handed over.
+fn print_mapped(input: &[u8], out: &mut [u8]) -> Result<usize, Refusal>
+    ensures { Tells (length out.old) (map_program input.now) result out.new }
+{
+    fits(input)?;
+    let mut cells = [0u8; MAX_ROWS * MAX_COLUMNS];
+    let x = map(input, &mut cells)?;
+    Ok(print(x, &cells, out).unwrap_or(0))
+}
+
+// "Two programs": "The first reads a job from standard input and prints the listing, or `(refused n line)`."
 pub fn map_text(input: &[u8], out: &mut [u8]) -> usize
     ensures { Said (length out.old) (map_program input.now) result out.new }
 {
-    if MAX_INPUT < input.len() {
-        return refuse(
-            out,
-            Refusal {
-                number: 14,
-                line: 0,
-            },
-        );
-    }
-    let mut cells = [0u8; MAX_ROWS * MAX_COLUMNS];
-    let mapped = map(input, &mut cells);
-    let refusal = mapped.refusal;
-    if refusal.number != 0 {
-        return refuse(out, refusal);
-    }
-    let head = mapped.head;
-    let printed = print(head, &cells, out);
-    printed.length
+    let text = print_mapped(input, out);
+    told(out, text)
 }
 
-// What the second program prints once the listing is loaded.
-fn light_and_read(x: Crossbar, cells: &[u8], setting: &[u8], out: &mut [u8]) -> usize
-    ensures { Said (length out.old)
-        (program_text (light_and_read setting.now (record { head = x; codes = cells.now })))
-        result
-        out.new }
+// The readings of a set line and a listing. "Its lines count over the whole input": the listing starts on line 2.
+fn print_lit(input: &[u8], out: &mut [u8]) -> Result<usize, Refusal>
+    ensures { Tells (length out.old) (light_program input.now) result out.new }
 {
+    fits(input)?;
+    let mut figures = [0u8; MAX_SWITCHES];
+    let (setting, text) = set_line(input, &mut figures).ok_or(NO_SET)?;
+    let mut cells = [0u8; MAX_ROWS * MAX_COLUMNS];
+    let x = load_from(text, 2, &mut cells)?;
     let mut firsts = [0u16; MAX_ROWS + MAX_COLUMNS];
-    let lit = light(x, cells, setting, &mut firsts);
-    let refusal = lit.refusal;
-    if refusal.number != 0 {
-        return refuse(out, refusal);
-    }
-    print_readings(out, x, lit.rounds as u32, &firsts)
+    let rounds = light(x, &cells, setting, &mut firsts)?;
+    Ok(print_readings(out, x, u32::from(rounds), &firsts))
 }
 
-// "Two programs": "The second reads a line `(set 1 1)` .. and then a listing. .. Its lines count over the whole input": the listing starts
-// on line 2.
+// "Two programs": "The second reads a line `(set 1 1)` .. and then a listing."
 pub fn light_text(input: &[u8], out: &mut [u8]) -> usize
     ensures { Said (length out.old) (light_program input.now) result out.new }
 {
-    if MAX_INPUT < input.len() {
-        return refuse(
-            out,
-            Refusal {
-                number: 14,
-                line: 0,
-            },
-        );
-    }
-    let set = set_line(input);
-    let refusal = set.refusal;
-    if refusal.number != 0 {
-        return refuse(out, refusal);
-    }
-    let next = figures::line_end(input, 0) + 1;
-    let mut cells = [0u8; MAX_ROWS * MAX_COLUMNS];
-    let loaded = load_from(input, next, 2, &mut cells);
-    let refusal = loaded.refusal;
-    if refusal.number != 0 {
-        return refuse(out, refusal);
-    }
-    let head = loaded.head;
-    let figures = set.figures;
-    let count = set.count;
-    light_and_read(head, &cells, &figures[0..count], out)
+    let text = print_lit(input, out);
+    told(out, text)
 }

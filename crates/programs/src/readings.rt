@@ -1,39 +1,48 @@
-// Document 01, "Two programs": the lines that a program prints.
-ghost use Rattle.std.specs.Prelude.{◌≡◌, ◌∷◌, [], ◌≤◌, length};
+// Document 01, "Two programs": the lines that a program prints. They are written as those of a listing.
+ghost use Rattle.std.specs.Prelude.{◌≡◌, ◌≤◌, ℕ, List, length};
 ghost use Rattle.common.specs.Limits.{max_outputs};
-ghost use Rattle.common.specs.Outcome.{value_of, Answered};
-ghost use Rattle.forms.specs.Template.{line};
-ghost use Rattle.forms.specs.Forms.{refused_form};
+ghost use Rattle.common.specs.Lists.{zeros};
 ghost use Rattle.forms.specs.Written.{Written};
-ghost use Rattle.programs.specs.Programs.{reading, readings};
-ghost use Rattle.programs.specs.Texts.{in_room, Said, reads_text};
+ghost use Rattle.forms.specs.Wrote.{Wrote};
+ghost use Rattle.programs.specs.Programs.{reading, reads_lines, readings};
+ghost use Rattle.programs.specs.Texts.{Said, refusal_line};
 
 use cells::Crossbar;
-use common::{MAX_OUTPUTS, Refusal};
-use forms::write::{write_end, write_read, write_refused, write_rounds};
+use common::Refusal;
+use forms::write::Writer;
 
-// A buffer whose bytes up to `past` were written: `past`, or 0 and zeros in the whole buffer where they did not fit.
-fn said(out: &mut [u8], past: usize) -> usize
-    ensures { Answered (in_room (length out.old) past out.old)
-        (λ o. value_of 0 (λ t. past) o)
-        (λ t. t)
-        (length out.old)
-        result
-        out.new }
+// A buffer whose bytes up to the position were written: the position, or 0 and zeros in the whole buffer where they did not fit. A text has
+// bytes, so 0 says that it did not fit; the programs' functions have answered a number since their first release.
+fn said(out: &mut [u8], past: Option<usize>) -> usize
+    ensures { (text : List ℕ)
+        → Written (zeros (length out.old)) out.old 0 text past
+        → Said (length out.old) text result out.new }
 {
-    if out.len() < past {
-        common::clear(out);
-        return 0;
+    match past {
+        Some(past) => past,
+        None => {
+            out.fill(0);
+            0
+        }
     }
-    past
+}
+
+// `(refused n line)`, at the buffer's start.
+#[tactic(auto, using(forms::proofs::Parts::wrote_whole), unfolding(forms::specs::Wrote::past, crate::specs::Texts::refusal_line))]
+fn write_refusal(out: &mut [u8], refusal: Refusal) -> Option<usize>
+    ensures { Written out.old out.new 0 (refusal_line refusal) result }
+{
+    let mut writer = Writer::new(out);
+    writer.refused_line(refusal.fault.number(), refusal.line)?;
+    Some(writer.written)
 }
 
 // `(refused n line)`
 pub fn refuse(out: &mut [u8], refusal: Refusal) -> usize
-    ensures { Said (length out.old) (line refused_form (refusal.number ∷ refusal.line ∷ [])) result out.new }
+    ensures { Said (length out.old) (refusal_line refusal) result out.new }
 {
-    common::clear(out);
-    let past = write_refused(out, 0, refusal.number, refusal.line);
+    out.fill(0);
+    let past = write_refusal(out, refusal);
     said(out, past)
 }
 
@@ -42,44 +51,45 @@ pub fn refuse(out: &mut [u8], refusal: Refusal) -> usize
 fn reading(firsts: &[u16], row: usize) -> u32
     ensures { result ≡ reading firsts.now row }
 {
-    if row < firsts.len() {
-        if firsts[row] != 0 {
-            return 1;
-        }
+    match firsts.get(row) {
+        Some(number) if *number != 0 => 1,
+        _ => 0,
     }
-    0
 }
 
-// The lines `(reads J v)` of the first k outputs.
-fn write_reads(
-    out: &mut [u8],
-    at: usize,
-    outs: [u16; MAX_OUTPUTS],
-    k: usize,
-    firsts: &[u16],
-) -> usize
-    requires { k ≤ max_outputs }
-    ensures { Written out.old out.new at (reads_text firsts.now outs 0 k) result }
+// The lines `(reads J v)` of outputs on the given rows. An output's number is cast, since `u32` has no `From<usize>`; it is at most 31.
+fn write_reads(writer: &mut Writer<'_>, rows: &[u16], firsts: &[u16]) -> Option<()>
+    requires { length rows.now ≤ max_outputs }
+    ensures { Wrote writer.old writer.new (reads_lines firsts.now 0 rows.now) result }
 {
-    let mut next = at;
-    let mut j = 0;
-    while j < k {
-        let v = reading(firsts, outs[j] as usize);
-        next = write_read(out, next, j as u32, v);
-        j += 1;
+    for (j, row) in rows.iter().enumerate() {
+        writer.reads_line(j as u32, reading(firsts, usize::from(*row)))?;
     }
-    next
+    Some(())
 }
 
-// `(rounds t)`, the outputs' lines and `(end)`, from the buffer's start on.
-fn write_readings(out: &mut [u8], x: Crossbar, rounds: u32, firsts: &[u16]) -> usize
+// `(rounds t)`, the outputs' lines and `(end)`. K's limit is a clause and no invariant of the record: a record that is handed over may be out of
+// range, which is what ground 12 tests.
+#[tactic(auto, unfolding(common::specs::Limits::max_outputs))]
+fn write_lines(writer: &mut Writer<'_>, x: Crossbar, rounds: u32, firsts: &[u16]) -> Option<()>
+    requires { x.outputs ≤ max_outputs }
+    ensures { Wrote writer.old writer.new (readings x (record { count = rounds; firsts = firsts.now })) result }
+{
+    writer.rounds_line(rounds)?;
+    let rows = &x.outs[..usize::from(x.outputs)];
+    write_reads(writer, rows, firsts)?;
+    writer.end_line()
+}
+
+// Those lines, from the buffer's start on: how long they are.
+#[tactic(auto, using(forms::proofs::Parts::wrote_whole), unfolding(forms::specs::Wrote::past))]
+fn write_readings(out: &mut [u8], x: Crossbar, rounds: u32, firsts: &[u16]) -> Option<usize>
     requires { x.outputs ≤ max_outputs }
     ensures { Written out.old out.new 0 (readings x (record { count = rounds; firsts = firsts.now })) result }
 {
-    let head = write_rounds(out, 0, rounds);
-    let outs = x.outs;
-    let body = write_reads(out, head, outs, x.outputs as usize, firsts);
-    write_end(out, body)
+    let mut writer = Writer::new(out);
+    write_lines(&mut writer, x, rounds, firsts)?;
+    Some(writer.written)
 }
 
 // What the second program prints for a crossbar, its count of rounds and its first rounds.
@@ -87,7 +97,7 @@ pub fn print_readings(out: &mut [u8], x: Crossbar, rounds: u32, firsts: &[u16]) 
     requires { x.outputs ≤ max_outputs }
     ensures { Said (length out.old) (readings x (record { count = rounds; firsts = firsts.now })) result out.new }
 {
-    common::clear(out);
+    out.fill(0);
     let past = write_readings(out, x, rounds, firsts);
     said(out, past)
 }

@@ -1,93 +1,56 @@
 // Document 01, "Two programs": the line `(set 1 1)`.
-ghost use Rattle.std.specs.Prelude.{◌≡◌, [], ◌<◌, eqb, get_or};
-ghost use Rattle.figures.specs.Line.{lines_of, left, ◌⏎◌};
+ghost use Rattle.std.specs.Prelude.{◌≡◌, MatchOption};
+ghost use Rattle.common.specs.Outcome.{done, refused};
+ghost use Rattle.figures.specs.Bytes.{bytes};
+ghost use Rattle.figures.specs.Line.{lines_of};
 ghost use Rattle.programs.specs.Programs.{set_line};
-ghost use Rattle.programs.specs.Setting.{no_set, set_of};
+ghost use Rattle.programs.specs.Setting.{SetIs};
 
-use common::{MAX_SWITCHES, Refusal};
-use figures::Figure;
+use common::MAX_SWITCHES;
+use figures::{after, first_line, take_figure};
 
-// The bytes of a blank and of the bracket that ends a form.
-const BLANK: u8 = 32;
-
-const CLOSE: u8 = 41;
-
-// The figures of the set line, zeros past them, or its refusal where it is missing or not the form due.
-#[derive(Clone, Copy)]
-pub struct SetLine {
-    pub refusal: Refusal,
-    pub count: usize,
-    pub figures: [u8; MAX_SWITCHES],
-}
-
-// The answer for a line that is missing or not the form due: ground 1, line 1.
-fn no_set() -> SetLine
-    ensures { result ≡ no_set }
+// The bracket that ends a form, and nothing after it: the count of the figures before it.
+#[tactic(auto, unfolding(figures::specs::Bytes::bytes))]
+fn ended(rest: &[u8], count: usize) -> Option<usize>
+    ensures { MatchOption result (rest.now ≡ bytes ")" → ⊥) (λ n. (n ≡ count) × (rest.now ≡ bytes ")")) }
 {
-    SetLine {
-        refusal: Refusal { number: 1, line: 1 },
-        count: 0,
-        figures: [0; MAX_SWITCHES],
+    match rest {
+        b")" => Some(count),
+        _ => None,
     }
 }
 
-// Whether a byte stands at a position; it is not 0.
-fn byte_at(line: &[u8], at: usize, b: u8) -> bool
-    requires { 0 < b }
-    ensures { result ≡ eqb (get_or line.now at 0) b }
+// The figures of a line into a buffer: up to 64, each 0 or 1. Their count. The buffer is lent and of fixed length, since nothing may allocate.
+#[tactic(auto, using(crate::proofs::SetLine::reading), unfolding(figures::specs::Bytes::bytes, common::specs::Limits::max_switches))]
+fn read_figures(line: &[u8], figures: &mut [u8; MAX_SWITCHES]) -> Option<usize>
+    ensures { SetIs line.now result figures.new }
 {
-    if at < line.len() {
-        line[at] == b
-    } else {
-        false
-    }
-}
-
-// The figures of a line, given without its line feed: up to 64, each 0 or 1.
-fn read_set(line: &[u8]) -> SetLine
-    ensures { result ≡ set_of (set_line (line.now ⏎ left [])) }
-{
-    if !figures::word_at(line, 0, b"(set") {
-        return no_set();
-    }
-    let mut found = [0u8; MAX_SWITCHES];
-    let mut count: usize = 0;
-    let mut at: usize = 4;
-    while byte_at(line, at, BLANK) {
-        let Figure::At { value, next } = figures::read_figure(line, at + 1) else {
-            return no_set();
+    let mut rest = after(line, b"(set")?;
+    for (count, figure) in figures.iter_mut().enumerate() {
+        let Some(next) = after(rest, b" ") else {
+            return ended(rest, count);
         };
-        if count == MAX_SWITCHES {
-            return no_set();
+        let read = take_figure(next)?;
+        if 1 < read.figure {
+            return None;
         }
-        if 1 < value {
-            return no_set();
-        }
-        found[count] = value as u8;
-        count += 1;
-        at = next;
+        *figure = read.figure as u8;
+        rest = read.rest;
     }
-    if line.len() != at + 1 {
-        return no_set();
-    }
-    if !byte_at(line, at, CLOSE) {
-        return no_set();
-    }
-    SetLine {
-        refusal: Refusal { number: 0, line: 0 },
-        count,
-        figures: found,
-    }
+    ended(rest, MAX_SWITCHES)
 }
 
-// The figures of the first line of a text.
-pub fn set_line(text: &[u8]) -> SetLine
-    ensures { result ≡ set_of (set_line (lines_of text.now)) }
+// The figures of the first line of a text, in a buffer that is lent, and the lines that follow; nothing where that line is missing or not the
+// form due.
+#[tactic(auto, using(crate::proofs::SetLine::first))]
+pub fn set_line<'a, 'b>(
+    text: &'a [u8],
+    figures: &'b mut [u8; MAX_SWITCHES],
+) -> Option<(&'b [u8], &'a [u8])>
+    ensures { MatchOption result (set_line (lines_of text.now) ≡ refused 1 1)
+        (λ p. set_line (lines_of text.now) ≡ done (record { vals = p.0.now; later = lines_of p.1.now })) }
 {
-    let end = figures::line_end(text, 0);
-    if end < text.len() {
-        read_set(&text[0..end])
-    } else {
-        no_set()
-    }
+    let (line, later) = first_line(text)?;
+    let count = read_figures(line, figures)?;
+    Some((&figures[..count], later))
 }

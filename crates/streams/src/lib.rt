@@ -2,60 +2,66 @@
 // status of its own, so that word is all that tells of it.
 #![tactic(auto)]
 
-ghost use Rattle.std.specs.Prelude.{◌+◌, ◌≤◌, length};
-ghost use Rattle.io.specs.Counts.{IsPrefixLen};
+ghost use Rattle.std.specs.Prelude.{◌≡◌, ◌≤◌, ℕ, List, length};
+ghost use Rattle.streams.specs.Text.{IsText};
 
-use std::io::{Print, Read};
+use common::{MAX_INPUT, MAX_TEXT};
+use std::io;
+use std::io::{Eprint, Print, Read};
 
-// A word on standard error; where it cannot be written nothing more can be told.
-fn tell<E: Print>(errors: &E, failed: &[u8]) {
-    if let Err(_) = errors.write_all(failed) {}
+// A program, by its name and what it prints.
+pub trait Program {
+    const NAME: &'static str;
+
+    // The text that it prints for its input.
+    ghost text: { List ℕ → List ℕ };
+
+    // Leaves that text at the start of a buffer, and answers how long it is.
+    fn print(&self, input: &[u8], out: &mut [u8; MAX_TEXT]) -> usize
+        ensures { IsText (text input.now) result out.new };
 }
 
-// One read into the bytes from `at` on: how many came, 0 at the end of the input and where the read fails.
-fn read_some<R: Read, E: Print>(
-    reader: &mut R,
-    errors: &E,
-    input: &mut [u8],
-    at: usize,
-    failed: &[u8],
-) -> usize
-    requires { at ≤ length input.old }
-    ensures { at + result ≤ length input.old }
+// Reads until the buffer is full, the input ends or a read fails. The count of the bytes that came grows with each read, so that it stands
+// after a failure too. It is no index: a `for` over the buffer's bytes would make one read more, of no bytes, once the buffer is full.
+fn read<I: Read>(reader: &mut I, input: &mut [u8], count: &mut usize) -> io::Result<()>
+    requires { count.old ≤ length input.old }
+    ensures { count.new ≤ length input.new }
 {
-    match reader.read(&mut input[at..]) {
-        Ok(count) => count,
-        Err(_) => {
-            tell(errors, failed);
-            0
-        }
-    }
-}
-
-// Reads until the buffer is full or the input ends, and answers how many bytes came. A read that fails ends the input, and `failed` goes to
-// standard error.
-pub fn read_input<R: Read, E: Print>(
-    reader: &mut R,
-    errors: &E,
-    input: &mut [u8],
-    failed: &[u8],
-) -> usize
-    ensures { IsPrefixLen result input.new }
-{
-    let mut n = 0;
-    while n < input.len() {
-        let more = read_some(reader, errors, input, n, failed);
+    while *count < input.len() {
+        let more = reader.read(&mut input[*count..])?;
         if more == 0 {
             break;
         }
-        n += more;
+        *count += more;
     }
-    n
+    Ok(())
 }
 
-// Writes the whole text, or as much of it as can be written, and then `failed` goes to standard error.
-pub fn write_answer<W: Print, E: Print>(out: &W, errors: &E, text: &[u8], failed: &[u8]) {
-    if let Err(_) = out.write_all(text) {
-        tell(errors, failed);
+// What is handed to standard output is the text for the input, whole.
+fn write<P: Program, R: Print>(rt: &R, program: &P, input: &[u8], text: &[u8]) -> io::Result<()>
+    requires { text.now ≡ P.text input.now }
+{
+    rt.write_all(text)
+}
+
+// A word on standard error; where it cannot be written nothing more can be told.
+fn tell<R: Eprint>(rt: &R, name: &str, failed: &str) {
+    if let Err(_) = eprintln!(rt; "{name}: could not {failed}") {}
+}
+
+// Runs a program on standard input: what it prints goes to standard output, whole or as much of it as can be written. The buffer for the
+// input has one byte more than an input may have, so that a longer input is refused as such. A read that fails ends the input. Both
+// buffers are of fixed length, since nothing may allocate.
+pub fn run<P: Program, R: Print + Eprint, I: Read>(rt: &R, reader: &mut I, program: &P) {
+    let mut input = [0u8; MAX_INPUT + 1];
+    let mut count = 0;
+    if let Err(_) = read(reader, &mut input, &mut count) {
+        tell(rt, P::NAME, "read the input");
+    }
+    let input = &input[..count];
+    let mut out = [0u8; MAX_TEXT];
+    let length = program.print(input, &mut out);
+    if let Err(_) = write(rt, program, input, &out[..length]) {
+        tell(rt, P::NAME, "write the answer");
     }
 }

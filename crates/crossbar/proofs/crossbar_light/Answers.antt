@@ -1,29 +1,24 @@
 -- `crossbar::crossbar_light` meets its contract: a slice that holds no record is refused, and otherwise light answers.
-use mathlib.Core.Path.{sym, ◌∙◌}
-use Rattle.common.specs.Outcome.{most_number}
-use Rattle.crossbar.proofs.Calls.{light_refused, light-numbers, light_answered}
-use Rattle.crossbar.proofs.Records.{holds_enough}
-use borrow.Author.Rules.{rules}
+use Prim.Native.Nat.{◌/◌}
+use mathlib.Core.Path.{◌≡◌}
+use lib.ListN.{length}
+use Rattle.std.proofs.Common.{rules}
+use Rattle.conduction.specs.Light.{light}
+use Rattle.conduction.proofs.Light.{lit_ends}
+use Rattle.crossbar.specs.Bytes.{pairs}
+use Rattle.crossbar.specs.Host.{host_light}
+use Rattle.crossbar.proofs.Calls.{none_answered, one_answered}
 use Rattle.crossbar.proofs.crossbar_light.Goals as goal
 
-pub refuse-requires : goal.refuse-requires
-unfolding most_number
-refuse-requires c = search rules
+pub returns-in-Err : goal.returns-in-Err
+unfolding host_light
+returns-in-Err c =
+    let a = c.args in
+    none_answered (λ b. b.count) (λ b. pairs b.firsts) _ (λ x. light x a.cells.now a.setting.now (length a.firsts.now / 2)) _ _ _ _ c.in-Err.ensures c.refuse.ensures.answer c.refuse.ensures.buffer
 
-pub returns-then-not-holds_record : goal.returns-then-not-holds_record
-returns-then-not-holds_record c =
-    light_refused c.args.head.now c.args.cells.now c.args.setting.now c.args.firsts.now _ _
-    (sym c.holds_record.ensures ∙ c.if-not-holds_record.true) c.refuse.ensures.0 c.refuse.ensures.1
-
-pub read_record-requires : goal.read_record-requires
-read_record-requires c = holds_enough _ (sym c.holds_record.ensures ∙ c.if-not-holds_record.false)
-
-pub pack-requires : goal.pack-requires
-pack-requires c =
-    light-numbers _ _ _ c.args.firsts.now _ _ c.light_bytes-lit.ensures
-
-pub returns : goal.returns
-returns c =
-    light_answered c.read_record.result c.args.cells.now c.args.setting.now c.args.firsts.now _
-    c.light_bytes-lit.result c.light_bytes-lit.ensures c.args.head.now c.pack.result (sym c.holds_record.ensures ∙ c.if-not-holds_record.false)
-    c.read_record.ensures c.pack.ensures
+pub returns-in-Ok : goal.returns-in-Ok
+unfolding host_light
+returns-in-Ok c =
+    let a = c.args in
+    let same : c.map.result ≡ c.light_bytes.result = search rules in
+    one_answered (λ b. b.count) (λ b. pairs b.firsts) _ (λ x. light x a.cells.now a.setting.now (length a.firsts.now / 2)) _ _ _ _ _ _ (lit_ends _ a.cells.now a.setting.now _) c.in-Ok.ensures c.light_bytes.ensures same c.pack.ensures

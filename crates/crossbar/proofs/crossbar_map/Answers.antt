@@ -2,19 +2,16 @@
 use mathlib.Core.Path.{◌≡◌}
 use native.Mathlib.Omega.{arith}
 use lib.ListN.{length}
+use Rattle.placement.specs.Map.{map_job}
+use Rattle.placement.proofs.Maps.{mapped_ends}
 use Rattle.crossbar.specs.Host.{host_map}
-use Rattle.crossbar.proofs.Deliveries.{map_beneath, delivered}
+use Rattle.crossbar.proofs.Numbers.{grounded}
 use Rattle.crossbar.proofs.crossbar_map.Goals as goal
-
-pub deliver-requires : goal.deliver-requires
-deliver-requires c =
-    let args = c.args in
-    (map_beneath args.text.now args.cells.now _ c.map-mapped.result c.map-mapped.ensures).low
 
 pub returns : goal.returns
 unfolding host_map
 returns c =
-    let args = c.args in
-    let beneath = map_beneath args.text.now args.cells.now _ c.map-mapped.result c.map-mapped.ensures in
-    let long : length c.map-mapped.new.cells ≡ length args.cells.now = omega arith in
-    delivered _ _ _ _ _ _ _ _ _ beneath long c.deliver.ensures.answer c.deliver.ensures.cells_left
+    let a = c.args in
+    let o = map_job a.text.now (length a.cells.now) in
+    let long : length c.map-mapped.new.cells ≡ length a.cells.now = omega arith in
+    (rw long at c.deliver.ensures.delivered) o (grounded o (mapped_ends a.text.now (length a.cells.now))) c.map-mapped.ensures.answer c.map-mapped.ensures.buffer

@@ -1,11 +1,13 @@
 -- `crossbar::crossbar_walk` meets its contract: walk answers.
-use Rattle.crossbar.proofs.Calls.{walk-numbers, walk_answered}
+use mathlib.Core.Path.{◌≡◌, ◌∙◌}
+use Rattle.std.proofs.Common.{rules}
+use Rattle.jobs.specs.Job.{walk}
+use Rattle.jobs.proofs.Refusals.{walk_ends}
+use Rattle.crossbar.proofs.Numbers.{grounded, packed_is}
 use Rattle.crossbar.proofs.crossbar_walk.Goals as goal
-
-pub pack-requires : goal.pack-requires
-pack-requires c = walk-numbers _ _ _ _ c.walk-walked.ensures
 
 pub returns : goal.returns
 returns c =
-    let args = c.args in
-    walk_answered args.text.now args.setting.now args.output c.walk-walked.result c.walk-walked.ensures c.pack.result c.pack.ensures
+    let a = c.args in
+    let o = walk a.text.now a.setting.now a.output in
+    c.pack.ensures ∙ packed_is (λ v. v) o _ (grounded o (walk_ends a.text.now a.setting.now a.output)) (let same : c.map.result ≡ c.walk.result = search rules in same ∙ c.walk.ensures)

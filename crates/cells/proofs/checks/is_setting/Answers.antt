@@ -1,14 +1,18 @@
 -- `cells::checks::is_setting` meets its contract.
-use mathlib.Core.Path.{◌∙◌}
-use lib.Seq.{take-length}
+use Rattle.std.proofs.Common.{rules, tests, leb, ◌≡◌, length, ◌∙◌}
 use borrow.Author.Tests.{eq-eqb, ne_eqb}
 use Rattle.cells.specs.Setting.{is_setting}
+use Rattle.cells.proofs.Every.{list_all_is}
 use Rattle.cells.proofs.checks.is_setting.Goals as goal
 
-pub returns-then-setting-switches : goal.returns-then-setting-switches
+pub returns-then-setting-from : goal.returns-then-setting-from
 unfolding is_setting
-returns-then-setting-switches c = rw (is_setting, eq-eqb _ _ c.if-setting-switches.true) (c.at_most.ensures ∙ rw take-length)
+returns-then-setting-from c =
+    let long : length c.args.setting.now ≡ c.args.switches = c.if-setting-from.true ∙ c.from.ensures in
+    rw (is_setting, eq-eqb (length c.args.setting.now) c.args.switches long)
+    (c.every.ensures (λ b. leb b 1) (λ x r k. search (rules, tests)) ∙ list_all_is (λ b. leb b 1) c.args.setting.now)
 
-pub returns : goal.returns
+pub returns-else-setting-from : goal.returns-else-setting-from
 unfolding is_setting
-returns c = rw (is_setting, ne_eqb _ _ c.if-setting-switches.false)
+returns-else-setting-from c =
+    rw (is_setting, ← c.from.ensures, ne_eqb (length c.args.setting.now) c.from.result c.if-setting-from.false)

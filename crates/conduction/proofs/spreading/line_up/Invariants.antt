@@ -1,14 +1,10 @@
--- `conduction::spreading::line_up` meets its contract: the first i wires stand in order, and the next is at hand.
-use Prim.Native.Nat.{◌-◌, ◌≤◌}
+-- `conduction::spreading::line_up` meets its contract: the first wires stand in order.
+use Prim.Native.Nat.{ℕ, ◌<◌}
 use mathlib.Core.Path.{◌≡◌}
-use mathlib.Core.List.{◌++◌}
-use lib.ListN.{length, drop}
-use Rattle.conduction.specs.Wires.{wire_of, in_order}
+use lib.ListN.{length, get_or}
+use Rattle.conduction.specs.Wires.{no_key, wire_of}
 use Rattle.conduction.proofs.spreading.line_up.Given as goal
 
-abbrev pub invariant-loop-i : goal.invariant-loop-i
-invariant-loop-i l =
-    (length l.wires ≡ length l.initial.wires) × (l.i ≤ length l.initial.wires) × (l.wire ≡ wire_of l.first l.step l.i) × (l.wires ≡ in_order l.first l.step l.i ++ drop l.i l.initial.wires)
-
-abbrev pub decreases-loop-i : goal.decreases-loop-i
-decreases-loop-i l = length l.initial.wires - l.i
+abbrev pub invariant-loop-x : goal.invariant-loop-x
+invariant-loop-x l =
+    (length l.keys ≡ length l.initial.keys) × ((k : ℕ) → k < l.x → get_or l.keys k no_key ≡ wire_of l.first l.step k)

@@ -1,13 +1,9 @@
--- `conduction::spreading::mark` meets its contract: the wires from the first up to i have the new stamp.
-use Prim.Native.Nat.{◌-◌, ◌≤◌}
+-- `conduction::spreading::mark` meets its contract: the wires so far have the new stamp.
 use mathlib.Core.Path.{◌≡◌}
-use lib.ListN.{length}
+use lib.ListN.{length, take}
 use Rattle.conduction.specs.Wires.{NewlyStamped}
 use Rattle.conduction.proofs.spreading.mark.Given as goal
 
-abbrev pub invariant-loop-i : goal.invariant-loop-i
-invariant-loop-i l =
-    (length l.stamps ≡ length l.initial.stamps) × (l.from ≤ l.i) × (l.i ≤ l.to) × NewlyStamped l.wires l.from l.i l.new l.initial.stamps l.stamps
-
-abbrev pub decreases-loop-i : goal.decreases-loop-i
-decreases-loop-i l = l.to - l.i
+abbrev pub invariant-loop-key : goal.invariant-loop-key
+invariant-loop-key l =
+    (length l.stamps ≡ length l.initial.stamps) × NewlyStamped (take l.key-index l.keys) l.new l.initial.stamps l.stamps

@@ -1,5 +1,4 @@
 -- `crossbar::bytes::write_numbers` meets its contract: before each number those before it are in the buffer.
-use Prim.Native.Nat.{◌*◌, ◌-◌, ◌≤◌}
 use mathlib.Core.Path.{◌≡◌}
 use lib.ListN.{length, take}
 use Rattle.common.specs.Lists.{padded}
@@ -7,11 +6,4 @@ use Rattle.crossbar.specs.Bytes.{pairs}
 use Rattle.crossbar.proofs.bytes.write_numbers.Given as goal
 
 abbrev pub invariant-loop-i : goal.invariant-loop-i
-invariant-loop-i l =
-    (l.i ≤ length l.numbers)
-    × (2 * length l.numbers ≤ length l.initial.bytes)
-    × (length l.bytes ≡ length l.initial.bytes)
-    × (l.bytes ≡ padded (length l.initial.bytes) (pairs (take l.i l.numbers)))
-
-abbrev pub decreases-loop-i : goal.decreases-loop-i
-decreases-loop-i l = length l.numbers - l.i
+invariant-loop-i l = l.bytes ≡ padded (length l.initial.bytes) (pairs (take l.i l.numbers))

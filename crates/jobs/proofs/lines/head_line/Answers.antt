@@ -1,35 +1,28 @@
 -- `jobs::lines::head_line` meets its contract.
-use mathlib.Core.Path.{◌∙◌}
-use native.Mathlib.Omega.{arith}
-use Rattle.common.specs.Limits.{max_switches, max_nodes, max_outputs}
-use Rattle.forms.proofs.Cases.{not_job}
-use Rattle.jobs.proofs.Due.{head_none, head_stops, head_sized, head_goes}
-use borrow.Enum.Refused.{opened}
+use Rattle.std.proofs.Common.{rules}
+use Rattle.common.proofs.Faults.{tested_passed}
+use Rattle.forms.proofs.Told.{job_not, job_due}
+use Rattle.jobs.specs.Reading.{read_head}
+use Rattle.jobs.proofs.Accepted.{head_ranges}
+use Rattle.jobs.proofs.Steps.{line_not, line_stops, line_goes, goes_err}
 use Rattle.jobs.proofs.lines.head_line.Goals as goal
 
-pub returns-in_default : goal.returns-in_default
-returns-in_default c =
-    c.no_head.ensures ∙ head_none _ _ _ _ c.job_line-read.ensures (not_job _ (opened c.in_default.in_default-own.keys2)) _ c.refusal_of.ensures
+pub returns-in_default-clause-goes : goal.returns-in_default-clause-goes
+unfolding read_head
+returns-in_default-clause-goes c =
+    line_not _ _ _ _ _ _ (job_not c.job_line-read.ensures c.in_default.not-Job) c.refusal_of.ensures
 
-pub returns-then-number-ne0 : goal.returns-then-number-ne0
-returns-then-number-ne0 c =
-    c.no_head-then-number-ne0.ensures ∙ head_stops _ _ _ _ c.job_line-read.ensures _ c.in-Job.is _ c.head_fault-number.ensures c.if-number-ne0.true
+pub returns-in_err-map_err-clause-goes : goal.returns-in_err-map_err-clause-goes
+unfolding read_head
+returns-in_err-map_err-clause-goes c =
+    goes_err _ _ _ _ c.from_residual.ensures
+    (line_stops _ _ _ _ _ _ _ (job_due c.job_line-read.ensures c.in-Job.is) _ _ c.head_fault.ensures (search rules))
 
-pub overflow_cast-result : goal.overflow_cast-result
-unfolding max_switches
-overflow_cast-result c =
-    let a = c.args in let sized = head_sized a.text.now 0 a.line _ c.job_line-read.ensures _ c.in-Job.is _ c.head_fault-number.ensures c.if-number-ne0.false in omega (arith, sized.switches_most)
+pub returns-clause-goes : goal.returns-clause-goes
+unfolding read_head
+returns-clause-goes c = line_goes _ _ _ _ _ _ _ (job_due c.job_line-read.ensures c.in-Job.is) _ c.head_fault.ensures (search rules)
 
-pub overflow_cast-result-2 : goal.overflow_cast-result-2
-unfolding max_nodes
-overflow_cast-result-2 c =
-    let a = c.args in let sized = head_sized a.text.now 0 a.line _ c.job_line-read.ensures _ c.in-Job.is _ c.head_fault-number.ensures c.if-number-ne0.false in omega (arith, sized.nodes_most)
-
-pub overflow_cast-result-3 : goal.overflow_cast-result-3
-unfolding max_outputs
-overflow_cast-result-3 c =
-    let a = c.args in let sized = head_sized a.text.now 0 a.line _ c.job_line-read.ensures _ c.in-Job.is _ c.head_fault-number.ensures c.if-number-ne0.false in omega (arith, sized.outputs_most)
-
-pub returns : goal.returns
-returns c =
-    head_goes _ _ _ _ c.job_line-read.ensures _ c.in-Job.is _ c.head_fault-number.ensures c.if-number-ne0.false
+pub returns-clause-sized : goal.returns-clause-sized
+returns-clause-sized c =
+    let r = head_ranges _ _ _ (tested_passed _ _ c.head_fault.ensures (search rules)) in
+    record { switches_most = r.0; nodes_most = r.1; outputs_most = r.3 }

@@ -1,41 +1,38 @@
 -- `jobs::walking::walk` meets its contract.
-use mathlib.Core.Path.{refl, ◌∙◌, sym}
 use native.Mathlib.Omega.{arith}
+use Rattle.std.proofs.Common.{sym, ap, ◌∙◌, [], Err}
 use Rattle.common.specs.Limits.{max_outputs}
-use Rattle.jobs.proofs.Walks.{walk_refused, nodes_few, outs_few, walk_terminals, walk_falls, walk_unset, walk_past, walk_found}
+use Rattle.jobs.proofs.Read.{job_given}
+use Rattle.jobs.proofs.Walks.{walk_refused, walk_falls, walk_unset, walk_below, walk_found}
 use Rattle.jobs.proofs.walking.walk.Goals as goal
 
-pub returns-then-refusal-ne0 : goal.returns-then-refusal-ne0
-returns-then-refusal-ne0 c =
-    walk_refused _ _ _ _ c.read_diagram-read.ensures.answer c.if-refusal-ne0.true
+pub returns-in_err-job : goal.returns-in_err-job
+returns-in_err-job c = walk_refused _ _ _ _ _ c.from_residual.ensures c.in_err-job.ensures.job
 
-pub returns-then-not-is_setting : goal.returns-then-not-is_setting
-returns-then-not-is_setting c =
-    c.no_walk.ensures ∙ walk_unset _ _ _ _ c.read_diagram-read.ensures.answer c.if-refusal-ne0.false (sym c.is_setting.ensures ∙ c.if-not-is_setting.true)
+pub returns-then-is_wrong : goal.returns-then-is_wrong
+returns-then-is_wrong c =
+    let g = job_given _ _ _ c.in_ok-job.ensures.job c.in_ok-job.ensures.table in
+    ap (λ r. Err r) c.at.ensures ∙ walk_unset _ _ _ _ g.accepts g.is g.front _ _ (sym c.is_wrong.ensures ∙ c.if-is_wrong.true)
 
-pub returns-then-output-job : goal.returns-then-output-job
-returns-then-output-job c =
-    let set = sym c.is_setting.ensures ∙ c.if-not-is_setting.false in
-    c.no_walk-then-output-job.ensures ∙ walk_past _ _ _ _ c.read_diagram-read.ensures.answer c.if-refusal-ne0.false set c.if-output-job.true
+pub diagram-diagram-requires : goal.diagram-diagram-requires
+diagram-diagram-requires c =
+    let g = job_given _ _ _ c.in_ok-job.ensures.job c.in_ok-job.ensures.table in
+    record { entries = g.entries; few = g.nodes_few }
 
 pub bounds-job-output : goal.bounds-job-output
 unfolding max_outputs
 bounds-job-output c =
-    let few = outs_few _ _ c.read_diagram-read.ensures.answer c.if-refusal-ne0.false in
-    omega (arith, few)
+    let g = job_given _ _ _ c.in_ok-job.ensures.job c.in_ok-job.ensures.table in
+    let below = walk_below _ _ _ _ g.accepts g.is g.front _ _ (sym c.is_wrong.ensures ∙ c.if-is_wrong.false) in
+    omega (arith, g.outs_few, below)
 
-pub walk_value-value-requires : goal.walk_value-value-requires
-walk_value-value-requires c =
-    let read = c.read_diagram-read.ensures in
-    let named = c.if-refusal-ne0.false in
-    record {
-      n_le_max_nodes = nodes_few _ _ read.answer named;
-      terminals = walk_terminals _ _ _ read named;
-      falls = walk_falls _ _ _ read named;
-    }
+pub walk_value-requires : goal.walk_value-requires
+walk_value-requires c =
+    let g = job_given _ _ _ c.in_ok-job.ensures.job c.in_ok-job.ensures.table in
+    rw (c.diagram-diagram.ensures []) (walk_falls _ _ _ _ g.accepts g.is g.front g.accepted_facts.facts)
 
 pub returns : goal.returns
 returns c =
-    let read = c.read_diagram-read.ensures in
-    let set = sym c.is_setting.ensures ∙ c.if-not-is_setting.false in
-    walk_found _ _ _ _ read.answer c.if-refusal-ne0.false set _ _ _ read refl (omega arith) c.walk_value-value.ensures
+    let g = job_given _ _ _ c.in_ok-job.ensures.job c.in_ok-job.ensures.table in
+    walk_found _ _ _ _ g.accepts g.is g.front _ _ (sym c.is_wrong.ensures ∙ c.if-is_wrong.false) _
+    (rw (← c.diagram-diagram.ensures []) c.walk_value.ensures)

@@ -1,55 +1,56 @@
--- `listings::printing::write_row` meets its contract: the lines of the row's cells from column c on are still to be written. Cells
--- that are off have no line.
-use Prim.Native.Nat.{◌+◌, ◌*◌}
-use mathlib.Core.Path.{◌∙◌}
+-- `listings::printing::write_row` meets its contract: the lines of the cells from the eight of place i on are still to be written.
 use native.Mathlib.Omega.{arith}
-use Rattle.common.specs.Limits.{max_rows, max_columns}
-use Rattle.forms.proofs.Parts.{going_start, going_part, going_as, going_end}
-use Rattle.listings.proofs.Text.{cell_text_none, cell_text_from, cell_text_more, cell_text_off, cell_text_pass, place_small}
+use Prim.Native.Nat.{◌+◌, ◌*◌}
+use mathlib.Core.Path.{◌≡◌}
+use lib.ListN.{drop}
+use Rattle.common.specs.Limits.{max_columns}
+use Rattle.forms.proofs.Parts.{going_start, going_as, going_part, going_stop, going_last}
+use Rattle.listings.proofs.Text.{row_parts, row_parts_off, zeros_of, eight_at, eights_left}
+use Rattle.listings.proofs.printing.write_row.Goals.{then-ne+in_ok-write_from, else-ne}
 use Rattle.listings.proofs.printing.write_row.Goals as goal
 
-pub overflow_mul-start : goal.overflow_mul-start
-unfolding max_rows max_columns
-overflow_mul-start c = let a = c.args in omega (arith, place_small a.r a.columns c.requires.row_small c.requires.columns_small)
+pub loop-i-init : goal.loop-i-init
+loop-i-init c = going_start _ _
 
-pub loop-c-init : goal.loop-c-init
-loop-c-init c =
-    let a = c.args in
-    let row = a.r * a.columns in
-    let passed = cell_text_pass a.cells.now row a.columns 0 (omega arith) a.columns _ (omega arith) c.past_off-c.ensures in
-    let begun = cell_text_from a.cells.now a.columns row (row + 0) (row + a.columns) (omega arith) in
-    (going_as (going_start a.out.now a.at _) (begun ∙ passed.0), passed.2)
-
-pub overflow_add-c : goal.overflow_add-c
+pub overflow_cast-i : goal.overflow_cast-i
 unfolding max_columns
-overflow_add-c c = omega arith
+overflow_cast-i c = omega (arith, c.requires, c.as_chunks.ensures.front_len, c.loop-i-test.true)
 
-pub loop-c-preserved-then-code-eq-OFF : goal.loop-c-preserved-then-code-eq-OFF
-loop-c-preserved-then-code-eq-OFF c =
-    let a = c.args in
-    let off = cell_text_off a.cells.now a.columns a.r c.loop-c.c c.if-code-eq-OFF.true (omega arith) (omega arith) in
-    (going_as c.loop-c.invariant.0 off, omega arith)
-
-pub overflow_cast-r : goal.overflow_cast-r
-unfolding max_rows
-overflow_cast-r c = omega arith
-
-pub overflow_cast-c : goal.overflow_cast-c
+pub overflow_mul-i : goal.overflow_mul-i
 unfolding max_columns
-overflow_cast-c c = omega arith
+overflow_mul-i c = omega (arith, c.requires, c.as_chunks.ensures.front_len, c.loop-i-test.true)
 
-pub overflow_add-c-else-code-eq-OFF : goal.overflow_add-c-else-code-eq-OFF
+pub returns-in_err-write_from : goal.returns-in_err-write_from
+returns-in_err-write_from c =
+    let k = c.as_chunks.ensures in
+    let parts = eight_at c.args.row.now _ c.loop-i.i k.front (omega (arith, k.front_len, c.loop-i-test.true)) in
+    going_stop _ c.loop-i.invariant (row_parts c.args.r _ 8 _ parts) c.in_err-write_from.ensures c.from_residual.ensures
+
+pub loop-i-preserved : goal.loop-i-preserved
+loop-i-preserved c =
+    let k = c.as_chunks.ensures in
+    let i = c.loop-i.i in
+    let left = drop (8 * i) c.args.row.now in
+    let parts = eight_at c.args.row.now _ i k.front (omega (arith, k.front_len, c.loop-i-test.true)) in
+    let e : 8 * i + 8 ≡ 8 * (i + 1) = omega arith in
+    elim c.if-ne.branch [
+      | then-ne+in_ok-write_from w ↦
+          rw (w.writer-is, ← e) (going_part c.loop-i.invariant (row_parts c.args.r (8 * i) 8 left parts) w.in_ok-write_from.ensures)
+      | else-ne w ↦
+          let off = zeros_of _ _ _ c.ne.ensures w.if-ne.false in
+          rw (w.writer-is, ← e) (going_as c.loop-i.invariant (row_parts_off c.args.r (8 * i) 8 left parts off))
+    ]
+
+pub overflow_cast-eights : goal.overflow_cast-eights
 unfolding max_columns
-overflow_add-c-else-code-eq-OFF c = omega arith
+overflow_cast-eights c = omega (arith, c.requires, c.as_chunks.ensures.front_len)
 
-pub loop-c-preserved : goal.loop-c-preserved
-loop-c-preserved c =
-    let a = c.args in
-    let passed = cell_text_pass a.cells.now (a.r * a.columns) a.columns (c.loop-c.c + 1) (omega arith) a.columns _ (omega arith) c.past_off-c-else-code-eq-OFF.ensures in
-    let more = cell_text_more a.cells.now a.columns a.r c.loop-c.c c.from_code.result c.from_code.ensures (omega arith) (omega arith) in
-    (going_as (going_part c.loop-c.invariant.0 more c.write_cell-next.ensures) passed.0, passed.2)
+pub overflow_mul-eights : goal.overflow_mul-eights
+unfolding max_columns
+overflow_mul-eights c = omega (arith, c.requires, c.as_chunks.ensures.front_len)
 
 pub returns : goal.returns
 returns c =
-    let a = c.args in
-    going_end c.loop-c.invariant.0 (cell_text_none a.cells.now a.columns _ _ (omega arith))
+    let k = c.as_chunks.ensures in
+    let left = eights_left c.args.r c.args.row.now _ c.loop-i.i _ (omega (arith, k.front_len)) k.front_len k.back in
+    going_last (going_as c.loop-i.invariant left) c.write_from-2.ensures

@@ -1,12 +1,9 @@
--- `listings::printing::write_row` meets its contract: the lines of the row's cells from column c on are still to be written. Cells
--- that are off have no line.
-use Prim.Native.Nat.{◌+◌, ◌*◌, ◌-◌, ◌≤◌}
+-- `listings::printing::write_row` meets its contract: the lines of the cells from the eight of place i on are still to be written.
+use Prim.Native.Nat.{◌*◌}
+use lib.ListN.{drop}
 use Rattle.forms.proofs.Parts.{Going}
-use Rattle.listings.specs.Printing.{cell_text}
+use Rattle.listings.specs.Printing.{row_lines}
 use Rattle.listings.proofs.printing.write_row.Given as goal
 
-abbrev pub invariant-loop-c : goal.invariant-loop-c
-invariant-loop-c l = Going l.initial.out l.at (cell_text l.cells l.columns (l.r * l.columns) (l.r * l.columns + l.columns)) l.out l.next (cell_text l.cells l.columns (l.r * l.columns + l.c) (l.r * l.columns + l.columns)) × (l.c ≤ l.columns)
-
-abbrev pub decreases-loop-c : goal.decreases-loop-c
-decreases-loop-c l = l.columns - l.c
+abbrev pub invariant-loop-i : goal.invariant-loop-i
+invariant-loop-i l = Going l.initial.writer (row_lines l.r 0 l.row) l.writer (row_lines l.r (8 * l.i) (drop (8 * l.i) l.row))

@@ -1,20 +1,32 @@
 -- `placement::mapping::map` meets its contract.
-use mathlib.Core.Path.{sym, ap, ◌∙◌}
-use Rattle.common.specs.Lists.{zeros}
-use Rattle.placement.proofs.Maps.{map_refused, job_held, map_is}
+use Rattle.std.proofs.Common.{rules, refl, sym}
+use Rattle.jobs.proofs.Read.{job_given}
+use Rattle.placement.proofs.Maps.{map_refused, map_short, is_plan, map_room, map_done}
 use Rattle.placement.proofs.mapping.map.Goals as goal
 
-pub returns-then-refusal-ne0 : goal.returns-then-refusal-ne0
-returns-then-refusal-ne0 c =
-    map_refused _ _ _ c.read-job.ensures _ _ _ c.if-refusal-ne0.true c.refuse.ensures c.clear.ensures
+pub returns-in_err-job : goal.returns-in_err-job
+returns-in_err-job c = map_refused _ _ _ _ _ c.from_residual.ensures c.in_err-job.ensures.job (search rules)
 
-pub place-requires : goal.place-requires
-place-requires c =
-    record {
-      job_held = job_held _ _ _ c.read-job.ensures c.if-refusal-ne0.false;
-      cells_value = c.clear.ensures ∙ ap zeros (sym c.clear.auto.out);
-    }
+pub returns-then-is_short : goal.returns-then-is_short
+returns-then-is_short c =
+    let g = job_given _ _ _ c.in_ok-job.ensures.job c.in_ok-job.ensures.table in
+    rw c.at.ensures (map_short _ _ _ g _ _ _ c.fill.auto.self (sym c.if-is_short.ensures) (search rules))
+
+pub diagram-diagram-requires : goal.diagram-diagram-requires
+diagram-diagram-requires c =
+    let g = job_given _ _ _ c.in_ok-job.ensures.job c.in_ok-job.ensures.table in record { entries = g.entries; few = g.nodes_few }
+
+pub invariant_of-plan : goal.invariant_of-plan
+invariant_of-plan c =
+    let g = job_given _ _ _ c.in_ok-job.ensures.job c.in_ok-job.ensures.table in
+    is_plan _ _ _ g _ refl c.diagram-diagram.ensures c.number_wires-wires.ensures
+
+pub all_cells-requires-clause-room : goal.all_cells-requires-clause-room
+all_cells-requires-clause-room c =
+    let g = job_given _ _ _ c.in_ok-job.ensures.job c.in_ok-job.ensures.table in
+    map_room _ _ _ g _ refl c.diagram-diagram.ensures _ (sym c.if-is_short.ensures)
 
 pub returns : goal.returns
 returns c =
-    rw (map_is _ _ _ c.read-job.ensures c.if-refusal-ne0.false _) at (rw c.clear.auto.out at c.place.ensures)
+    let g = job_given _ _ _ c.in_ok-job.ensures.job c.in_ok-job.ensures.table in
+    map_done _ _ _ g _ refl c.diagram-diagram.ensures _ (sym c.if-is_short.ensures) _ _ _ c.fill.auto.self c.head.ensures c.all_cells.ensures

@@ -1,12 +1,13 @@
--- `programs::readings::refuse` meets its contract.
+-- `programs::readings::refuse` meets its contract: the line is written into a clear buffer.
 use mathlib.Core.Path.{◌≡◌}
-use native.Mathlib.Omega.{arith}
 use lib.ListN.{length}
-use Rattle.programs.proofs.Texts.{said_over}
+use native.Mathlib.Omega.{arith}
+use Rattle.std.proofs.Common.{rules}
+use Rattle.common.specs.Lists.{zeros}
 use Rattle.programs.proofs.readings.refuse.Goals as goal
 
 pub returns : goal.returns
 returns c =
-    let a = c.args in
-    let k : length c.write_refused-past.new.out ≡ length a.out.now = omega arith in
-    said_over (length a.out.now) _ _ _ _ _ _ c.clear.ensures k c.write_refused-past.ensures c.said.ensures
+    let z : c.fill.new.self ≡ zeros (length c.args.out.now) = search rules in
+    let k : length c.write_refusal-past.new.out ≡ length c.args.out.now = omega arith in
+    (rw k at c.said.ensures) _ (rw z at c.write_refusal-past.ensures)

@@ -1,21 +1,11 @@
 -- `programs::readings::said` meets its contract: the buffer as it is, or cleared.
-use mathlib.Core.Path.{refl, sym, ◌∙◌}
-use lib.ListN.{length}
-use Rattle.common.specs.Outcome.{value_of, buffer_of}
-use Rattle.common.proofs.Lists.{padded_full}
-use Rattle.programs.proofs.Texts.{room_fits, room_short}
+use mathlib.Core.Path.{refl}
+use Rattle.std.proofs.Common.{rules}
+use Rattle.programs.proofs.Texts.{said_there, said_not}
 use Rattle.programs.proofs.readings.said.Goals as goal
 
-pub returns-then-out-past : goal.returns-then-out-past
-unfolding value_of buffer_of
-returns-then-out-past c =
-    let a = c.args in
-    let e = room_short (length a.out.now) a.past a.out.now c.if-out-past.true in
-    record { answer = rw e; buffer = c.clear.ensures ∙ rw e }
+pub returns-in-Some : goal.returns-in-Some
+returns-in-Some c = λ text w. said_there _ text _ (rw c.in-Some.is at w)
 
-pub returns : goal.returns
-unfolding value_of buffer_of
-returns c =
-    let a = c.args in
-    let e = room_fits (length a.out.now) a.past a.out.now c.if-out-past.false in
-    record { answer = rw e; buffer = sym (padded_full (length a.out.now) a.out.now refl) ∙ rw e }
+pub returns-in-None : goal.returns-in-None
+returns-in-None c = λ text w. said_not _ text _ _ (rw c.in-None.is at w) refl (search rules)

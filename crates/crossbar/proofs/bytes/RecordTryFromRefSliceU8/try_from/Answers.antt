@@ -1,0 +1,34 @@
+-- `crossbar::bytes::Record::try_from` meets its contract: the output rows are the table of the numbers from place 4 on.
+use Prim.Native.Nat.{ℕ, ◌+◌}
+use mathlib.Core.Path.{◌≡◌}
+use mathlib.Core.List.{List}
+use Rattle.std.proofs.Common.{rules}
+use Rattle.common.specs.Limits.{max_outputs}
+use Rattle.common.specs.Lists.{tab}
+use Rattle.cells.specs.declared.Crossbar.{Crossbar}
+use Rattle.crossbar.specs.Bytes.{record_length, record_from, number_at}
+use Rattle.common.proofs.FromFn.{made_tab}
+use Rattle.crossbar.proofs.Records.{one_is}
+use Rattle.crossbar.proofs.bytes.RecordTryFromRefSliceU8.try_from.Goals as goal
+
+record_is :
+    (s outs : List ℕ) (r c v k : ℕ)
+    → r ≡ number_at s 0
+    → c ≡ number_at s 1
+    → v ≡ number_at s 2
+    → k ≡ number_at s 3
+    → outs ≡ tab max_outputs (λ i. number_at s (4 + i))
+    → ◌≡◌ {A = Crossbar} (record { rows = r; columns = c; switches = v; outputs = k; outs = outs }) (record_from s)
+unfolding record_from
+record_is s outs r c v k er ec ev ek e = rw (er, ec, ev, ek, e)
+
+pub returns-in-Some : goal.returns-in-Some
+unfolding record_length max_outputs
+returns-in-Some c =
+    let s = c.args.s.now in
+    let outs = made_tab 0 _ (λ j. number_at s (4 + j)) _ (λ q i y k. search rules) _ _ c.from_fn.ensures.items in
+    let x =
+    record_is s _ _ _ _ _ c.number_at.ensures c.number_at-in-Some.ensures c.number_at-in-Some-2.ensures c.number_at-in-Some-3.ensures outs
+    in
+    let split = c.in-Some.ensures.cases in
+    one_is s c.in-Some.past.now _ (split.0) (search rules) (search rules) x

@@ -1,0 +1,2 @@
+-- Text is the law: how a program hands over its text.
+pub mod Text
