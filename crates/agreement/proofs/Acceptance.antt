@@ -9,8 +9,9 @@ use native.Mathlib.Omega.{arith}
 use lib.ListN.{length, take}
 use lib.Dec.{ltb}
 use borrow.Author.Tests.{ltb-true, ltb-false, not-false}
+use Rattle.std.proofs.lemmas.Bool.{cases_lt}
 use Rattle.common.specs.Outcome.{Outcome, done, number_of}
-use Rattle.common.proofs.Lists.{below_or_not, and_left, and_right}
+use Rattle.common.proofs.Lists.{and_left, and_right}
 use Rattle.common.proofs.Outcome.{then_done, unless_done, not_met, others}
 use Rattle.cells.specs.Record.{size, sound}
 use Rattle.cells.specs.Setting.{is_setting}
@@ -112,7 +113,7 @@ light_short head cells setting room holds right set =
     let w = x.rows + x.columns in
     let is = one_held head (light x cells setting (room / 2)) holds in (
       (λ e.
-          elim (below_or_not room (2 * w)) [
+          elim (cases_lt room (2 * w)) [
             | inl h ↦ h
             | inr h ↦
                 let none : number_of (host_light head cells setting room) ≡ 0 =

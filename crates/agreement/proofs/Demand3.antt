@@ -8,9 +8,11 @@ use native.Mathlib.Omega.{arith}
 use lib.ListN.{length, get_or, length-map}
 use lib.Dec.{eqb, ltb}
 use borrow.Author.Tests.{ltb-true, lt-ltb, le-ltb, eqb-true, eq-eqb, not-false}
+use Rattle.std.proofs.lemmas.Bool.{cases_eq, and_from}
+use Rattle.std.proofs.lemmas.List.{get_or-map}
 use Rattle.common.specs.Lists.{bit, padded}
 use Rattle.common.specs.Outcome.{done, ◌then◌, ◌when◌, lowest, unless}
-use Rattle.common.proofs.Lists.{equal_or_not, and_left, and_right, and_both, bit_one, get_or-padded, get_or-map_at}
+use Rattle.common.proofs.Lists.{and_left, and_right, bit_one, get_or-padded}
 use Rattle.common.proofs.Outcome.{unless_done, not_met}
 use Rattle.cells.specs.Record.{Whole, size}
 use Rattle.cells.specs.Setting.{is_setting}
@@ -52,7 +54,7 @@ shows n P e = (
   e,
   (
     (λ z p. e.1 p z),
-    (λ never. elim (equal_or_not n 0) [ inl z ↦ z | inr some ↦ absurd (never (e.0 some)) ]),
+    (λ never. elim (cases_eq n 0) [ inl z ↦ z | inr some ↦ absurd (never (e.0 some)) ]),
   ),
 )
 
@@ -74,7 +76,7 @@ module _ (text : List ℕ) (d : Diagram) (facts : Facts d) (sizes : Sizes d) whe
   stands : (j : ℕ) → j < length d.outs → stands_on (whole d) j ≡ out_row d (get_or d.outs j 0)
   unfolding crossbar
   stands j h =
-      get_or-padded _ (map (out_row d) d.outs) j 0 (rw length-map h) ∙ get_or-map_at (out_row d) d.outs j 0 0 h
+      get_or-padded _ (map (out_row d) d.outs) j 0 (rw length-map h) ∙ get_or-map (out_row d) d.outs j 0 0 h
 
   row_within : (j : ℕ) → j < length d.outs → stands_on (whole d) j < row_count d
   row_within j h =
@@ -190,7 +192,7 @@ module _ (text : List ℕ) (d : Diagram) (facts : Facts d) (sizes : Sizes d) (ta
       → (v : ℕ) × (walk text setting j ≡ done v)
   unfolding fits13 lowest unless
   walks setting j s h =
-      let fits = and_both (is_setting d.switches setting) (ltb j (length d.outs)) s (lt-ltb j (length d.outs) h) in
+      let fits = and_from (is_setting d.switches setting) (ltb j (length d.outs)) s (lt-ltb j (length d.outs) h) in
       (walk_value d setting (get_or d.outs j 0), walk_is setting j ∙ rw fits)
 
 -- map refuses an accepted job for a short buffer only

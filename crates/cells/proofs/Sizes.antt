@@ -2,6 +2,7 @@
 use Prim.Native.Nat.{ℕ, ◌*◌, ◌≤◌, ◌<◌}
 use mathlib.Core.Path.{◌≡◌, ◌∙◌}
 use mathlib.Core.Bool.{Bool, true, false, ◌&&◌}
+use Rattle.std.proofs.lemmas.Bool.{and_parts}
 use Rattle.std.proofs.Math.Bool.{and_assoc}
 use mathlib.Core.List.{List}
 use native.Mathlib.Nat.{mul-le-mul}
@@ -10,7 +11,7 @@ use lib.Dec.{eqb, leb, ltb}
 use borrow.Author.Tests.{le-leb, lt-leb, leb-true, eqb-true}
 use Rattle.common.specs.Limits.{max_rows, max_columns, max_switches, max_outputs}
 use Rattle.common.specs.Lists.{all_of}
-use Rattle.common.proofs.Lists.{and_left, and_right}
+use Rattle.common.proofs.Lists.{and_left}
 use Rattle.cells.specs.declared.Crossbar.{Crossbar}
 use Rattle.cells.specs.Record.{codes_low, in_range, Whole, size, cells_fit, outs_fit, sound}
 use Rattle.cells.specs.Setting.{is_setting}
@@ -31,17 +32,12 @@ six :
     → a && b && c && d && e && f ≡ true
     → (a ≡ true) × (b ≡ true) × (c ≡ true) × (d ≡ true) × (e ≡ true) × (f ≡ true)
 six a b c d e f h =
-    let h₅ = and_left (a && b && c && d && e) f h in
-    let h₄ = and_left (a && b && c && d) e h₅ in
-    let h₃ = and_left (a && b && c) d h₄ in
-    let h₂ = and_left (a && b) c h₃ in (
-      and_left a b h₂,
-      and_right a b h₂,
-      and_right (a && b) c h₃,
-      and_right (a && b && c) d h₄,
-      and_right (a && b && c && d) e h₅,
-      and_right (a && b && c && d && e) f h,
-    )
+    let h₅ = and_parts (a && b && c && d && e) f h in
+    let h₄ = and_parts (a && b && c && d) e h₅.0 in
+    let h₃ = and_parts (a && b && c) d h₄.0 in
+    let h₂ = and_parts (a && b) c h₃.0 in
+    let h₁ = and_parts a b h₂.0 in
+    (h₁.0, h₁.1, h₂.1, h₃.1, h₄.1, h₅.1)
 
 pub in_range_lem : (r c v k : ℕ) → in_range r c v k ≡ true → SizesInRange r c v k
 unfolding in_range

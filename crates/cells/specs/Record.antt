@@ -3,7 +3,7 @@
 use Rattle.std.specs.Prelude.{ℕ, ◌+◌, ◌*◌, Bool, ◌&&◌, List, length, take, drop, eqb, leb, ltb}
 use Rattle.cells.specs.declared.Crossbar.{Crossbar}
 use Rattle.common.specs.Limits.{max_rows, max_columns, max_switches, max_outputs}
-use Rattle.common.specs.Lists.{all_of, zeros}
+use Rattle.common.specs.Lists.{all_of}
 
 -- a crossbar: its record, and the codes of its R-as-C cells, row by row
 pub record Whole : Type 0 where
@@ -13,10 +13,6 @@ pub record Whole : Type 0 where
 -- how many cells a record has
 unfoldable pub size : Crossbar → ℕ
 size x = x.rows * x.columns
-
--- the record of a refusal. "Grounds for sending a job back": "0 as value, rounds or field of a record"
-unfoldable pub no_record : Crossbar
-no_record = record { rows = 0; columns = 0; switches = 0; outputs = 0; outs = zeros max_outputs }
 
 -- "Listing": "R is 1 to 128, C is 0 to 128; V and K range as in a job"
 unfoldable pub in_range : ℕ → ℕ → ℕ → ℕ → Bool

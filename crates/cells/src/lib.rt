@@ -6,6 +6,7 @@ pub mod checks;
 ghost use Rattle.std.specs.Prelude.{◌≡◌, get_or};
 ghost use Rattle.cells.specs.Code.{code_of, cell_of};
 ghost use Rattle.cells.specs.Conducts.{conducts};
+ghost use Rattle.cells.specs.Record.{size};
 
 use common::MAX_OUTPUTS;
 
@@ -87,4 +88,14 @@ pub struct Crossbar {
     pub switches: u16,
     pub outputs: u16,
     pub outs: [u16; MAX_OUTPUTS],
+}
+
+impl Crossbar {
+    // How many cells there are.
+    #[tactic(auto, unfolding(crate::specs::Record::size))]
+    pub fn size(self) -> usize
+        ensures { result ≡ size self }
+    {
+        usize::from(self.rows) * usize::from(self.columns)
+    }
 }

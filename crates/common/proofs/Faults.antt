@@ -5,31 +5,12 @@ use mathlib.Core.List.{List}
 use native.Mathlib.Omega.{arith}
 use Rattle.std.specs.Prelude.{Result, Ok, Err, IfErr, MatchResult}
 use Rattle.common.specs.declared.Fault.{Fault}
-use Rattle.common.specs.declared.Fault.TheVariants as fault
 use Rattle.common.specs.declared.Refusal.{Refusal}
 use Rattle.common.specs.Lists.{zeros}
 use Rattle.common.specs.Outcome.{Outcome, done, refused, ◌then◌, unless, buffer_of, Answered}
 use Rattle.common.specs.Fault.{number_of_fault, faults, fault_of, tested, handed}
 
--- the two ways between faults and numbers are inverse
-pub fault_numbered : (f : Fault) → fault_of (number_of_fault f) ≡ f
-unfolding fault_of faults number_of_fault
-fault_numbered fault.NotDue = refl
-fault_numbered fault.OutOfRange = refl
-fault_numbered fault.OutOfTurn = refl
-fault_numbered fault.NoSwitch = refl
-fault_numbered fault.NoId = refl
-fault_numbered fault.Unordered = refl
-fault_numbered fault.SameChildren = refl
-fault_numbered fault.Doubled = refl
-fault_numbered fault.Alike = refl
-fault_numbered fault.BytesFollow = refl
-fault_numbered fault.TooLarge = refl
-fault_numbered fault.Misplaced = refl
-fault_numbered fault.WrongSetting = refl
-fault_numbered fault.NoRoom = refl
-fault_numbered fault.Unsettled = refl
-
+-- the number of the fault of a number
 pub number_faulted : (k : ℕ) → 1 ≤ k → k ≤ 15 → number_of_fault (fault_of k) ≡ k
 unfolding fault_of faults number_of_fault
 number_faulted zero a b = absurd (omega arith)

@@ -8,8 +8,9 @@ use lib.ListN.{get_or}
 use lib.Seq.{ext_get_or}
 use Rattle.std.specs.Fn.{Mut, Called}
 use Rattle.std.specs.Array.{IsFromFnResult, IsFromFnResultFrom}
+use Rattle.std.proofs.lemmas.Bool.{cases_eq}
 use Rattle.common.specs.Lists.{tab}
-use Rattle.common.proofs.Lists.{length-tab, get_or-tab, equal_or_not}
+use Rattle.common.proofs.Lists.{length-tab, get_or-tab}
 
 -- where each call of f answers h at its place and leaves f as it is, the array is the table of h
 module _ {F A : Type 0} (d : A) (g : Mut F (ℕ × Unit {0}) A) (h : ℕ → A) (f : F) (answers : (q : F) (i : ℕ) (y : A) → Called g f (i, tt) y q → (y ≡ h i) × (q ≡ f)) where
@@ -21,7 +22,7 @@ module _ {F A : Type 0} (d : A) (g : Mut F (ℕ × Unit {0}) A) (h : ℕ → A) 
       ⊎_elim
       (λ (first : i ≡ j). let e : get_or ys i d ≡ made.1 = made.2.1 d in rw first at (e ∙ step.0))
       (λ (later : i ≡ j → ⊥). made_at ys (i + 1) n j others (omega arith) (omega arith))
-      (equal_or_not i j)
+      (cases_eq i j)
 
   pub made_tab : (ys : List A) (n : ℕ) → IsFromFnResult g f ys n → ys ≡ tab n h
   made_tab ys n made =

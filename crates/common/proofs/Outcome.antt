@@ -37,3 +37,15 @@ then_is o a f e = rw e
 pub unless_none : {A : Type 0} (k n : ℕ) (o : Outcome A) → k ≡ 0 → unless k n o ≡ o
 unfolding unless
 unless_none k n o e = rw e
+
+-- one reading goes as another and then f does: step by step, where the steps go on alike
+pub unless_then : {A B : Type 0} (f : A → Outcome B) (k n : ℕ) (o : Outcome B) (p : Outcome A) → o ≡ p then f → unless k n o ≡ unless k n p then f
+unfolding unless ◌then◌
+unless_then f zero n o p e = e
+unless_then f (suc k) n o p e = refl
+
+pub then_then :
+    {A B C : Type 0} (f : B → Outcome C) (o : Outcome A) (g : A → Outcome C) (h : A → Outcome B) → ((a : A) → g a ≡ h a then f) → o then g ≡ (o then h) then f
+unfolding ◌then◌
+then_then f (done a) g h e = e a
+then_then f (refused k l) g h e = refl

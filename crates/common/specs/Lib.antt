@@ -1,5 +1,5 @@
 -- All five are the law: contracts and theorems of every crate rest on them. Working definitions, which only inner contracts cite:
--- `most_number` in Outcome, `tested` and `Goes` in Fault.
+-- `max_ids` in Limits, `most_number` in Outcome, `tested` and `Goes` in Fault.
 pub mod Labels
 pub mod Limits
 pub mod Lists

@@ -58,7 +58,7 @@ impl Fault {
         self as u32
     }
 
-    // The refusal with this fault, at a line: 0 where no line is at fault.
+    // The refusal with this fault, at a line. 0 is document 01's number where no line is at fault: "0 for 12 on a record, for 13 to 15".
     pub fn at(self, line: u32) -> Refusal
         ensures { result ≡ record { fault = self; line = line } }
     {

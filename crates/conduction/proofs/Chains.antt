@@ -7,8 +7,9 @@ use mathlib.Core.Bool.{Bool, true, ◌&&◌}
 use mathlib.Core.List.{List}
 use native.Mathlib.Omega.{arith}
 use borrow.Author.Tests.{eqb-true}
+use Rattle.std.proofs.lemmas.Bool.{and_from, or_cases, or_right}
 use Rattle.common.specs.Lists.{some_below}
-use Rattle.common.proofs.Lists.{and_left, and_right, and_both, or_cases, or_right, some_below_at, some_below_is}
+use Rattle.common.proofs.Lists.{and_left, and_right, some_below_at, some_below_is}
 use Rattle.conduction.specs.Round.{lit, round, rounds}
 use Rattle.conduction.specs.Chain.{Wire, row, column, Chain, here, across, back, cell_count, place, Within}
 use Rattle.conduction.proofs.Rounds.{next, start-lit, round-lit, place_below}
@@ -80,7 +81,7 @@ module _ (m n : ℕ) (joined : ℕ → ℕ → Bool) where
       ∙ or_right
       (lit set (m + c))
       (some_below m (λ i. joined i c && lit set i))
-      (some_below_at m (λ i. joined i c && lit set i) r h (and_both (joined r c) (lit set r) e p))
+      (some_below_at m (λ i. joined i c && lit set i) r h (and_from (joined r c) (lit set r) e p))
 
   step_back :
       (set : List ℕ) (r c : ℕ) → r < m → c < n → joined r c ≡ true → lit set (m + c) ≡ true
@@ -91,7 +92,7 @@ module _ (m n : ℕ) (joined : ℕ → ℕ → Bool) where
       ∙ or_right
       (lit set r)
       (some_below n (λ i. joined r i && lit set (m + i)))
-      (some_below_at n (λ i. joined r i && lit set (m + i)) c k (and_both (joined r c) (lit set (m + c)) e p))
+      (some_below_at n (λ i. joined r i && lit set (m + i)) c k (and_from (joined r c) (lit set (m + c)) e p))
 
   -- a chain of t cells lights its wire in t rounds
   pub chain_lights : 0 < m → (w : Wire) (c : Chain m n joined w) → lit (rounds m n joined (cell_count c)) (place m w) ≡ true

@@ -5,7 +5,7 @@ use mathlib.Core.Logic.{⊎_elim}
 use mathlib.Core.Bool.{Bool, true, false}
 use native.Mathlib.Omega.{arith}
 use native.Mathlib.Nat.{add-suc, suc-add, add-zero, zero-add}
-use Rattle.common.proofs.Lists.{by_test, true_or_false, below_or_not}
+use Rattle.std.proofs.lemmas.Bool.{cases_Bool, cases_lt}
 use Rattle.conduction.specs.Round.{at_rest, first_rest, round_count}
 use Rattle.conduction.proofs.Settles.{settles}
 
@@ -18,7 +18,7 @@ module _ (m n : ℕ) (joined : ℕ → ℕ → Bool) where
       ⊎_elim
       (λ (p : at_rest m n joined t ≡ true). rw (p, first_rest) p)
       (λ (p : at_rest m n joined t ≡ false). rw (p, first_rest) (first_rests k (suc t) (rw (suc-add, ← add-suc) h)))
-      (by_test (at_rest m n joined t))
+      (cases_Bool (at_rest m n joined t))
 
   pub first_at_most : (k t : ℕ) → first_rest m n joined k t ≤ t + k
   unfolding first_rest
@@ -27,7 +27,7 @@ module _ (m n : ℕ) (joined : ℕ → ℕ → Bool) where
       ⊎_elim
       (λ (p : at_rest m n joined t ≡ true). rw (p, first_rest) (omega arith))
       (λ (p : at_rest m n joined t ≡ false). rw (p, first_rest) (omega (arith, first_at_most k (suc t))))
-      (by_test (at_rest m n joined t))
+      (cases_Bool (at_rest m n joined t))
 
   pub first_least : (k t s : ℕ) → t ≤ s → s < first_rest m n joined k t → at_rest m n joined s ≡ false
   unfolding first_rest
@@ -40,8 +40,8 @@ module _ (m n : ℕ) (joined : ℕ → ℕ → Bool) where
       ⊎_elim
       (λ (q : t < s). first_least k (suc t) s (omega arith) later)
       (λ (q : s ≤ t). let st : s ≡ t = omega arith in rw st p)
-      (below_or_not t s))
-      (by_test (at_rest m n joined t))
+      (cases_lt t s))
+      (cases_Bool (at_rest m n joined t))
 
   -- the count of rounds is at rest, at most R + C − 1, and the least
   pub count_rests : at_rest m n joined (m + n - 1) ≡ true → at_rest m n joined (round_count m n joined) ≡ true
@@ -66,10 +66,10 @@ module _ (m n : ℕ) (joined : ℕ → ℕ → Bool) where
   count_only h t rest least =
       let count = round_count m n joined in
       ⊎_elim
-      (λ (p : count < t). absurd (true_or_false (at_rest m n joined count) (count_settled h) (least count p)))
+      (λ (p : count < t). absurd (cc (count_settled h, least count p)))
       (λ (p : t ≤ count).
       ⊎_elim
-      (λ (q : t < count). absurd (true_or_false (at_rest m n joined t) rest (count_least t q)))
+      (λ (q : t < count). absurd (cc (count_least t q)))
       (λ (q : count ≤ t). omega arith)
-      (below_or_not t count))
-      (below_or_not count t)
+      (cases_lt t count))
+      (cases_lt count t)

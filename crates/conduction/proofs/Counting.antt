@@ -5,14 +5,16 @@ use mathlib.Core.Path.{◌≡◌, refl, sym, ap, ◌∙◌}
 use mathlib.Core.Logic.{⊎_elim}
 use mathlib.Core.Bool.{Bool, true, false}
 use mathlib.Core.List.{List}
+use native.Mathlib.Nat.{pos_of_ne-zero}
 use native.Mathlib.Omega.{arith}
 use native.Mathlib.Numerals.{add-one}
 use lib.ListN.{length, get_or}
-use Rattle.std.specs.Prelude.{Some, None}
+use Rattle.std.specs.Prelude.{Some}
+use Rattle.std.proofs.lemmas.Bool.{cases_lt, cases_eq}
 use lib.Dec.{ltb}
 use borrow.Author.Tests.{not-true, not-false, lt-ltb, le-ltb}
 use Rattle.common.specs.Lists.{tab}
-use Rattle.common.proofs.Lists.{at_or_below, below_or_not, equal_or_not, not-zero, length-tab, get_or-tab}
+use Rattle.common.proofs.Lists.{at_or_below, length-tab, get_or-tab}
 use Rattle.conduction.specs.Round.{at_rest, is_new, Rounded}
 use Rattle.conduction.specs.Stamps.{stamps_after, Settled}
 use Rattle.conduction.specs.declared.Key.{Key}
@@ -33,10 +35,6 @@ module _ (m n : ℕ) (joined : ℕ → ℕ → Bool) (k : ℕ) (row_0 : 0 < m) (
   going_start stamps e = record { upto = omega arith; so_far = e; adding = λ s h. absurd (omega arith) }
 
   module _ (t : ℕ) (stamps : List ℕ) (going : Going m n joined k t stamps) where
-    -- as many rounds as there are wires
-    pub none_rest : m + n ≤ t → Settled m n joined k stamps None
-    none_rest h = λ s p. going.adding s (omega arith)
-
     module _ (after : List ℕ) (added : Bool) (ran : Rounded m n joined t stamps after added) where
       after_is : after ≡ stamps_after k m n joined (suc t)
       after_is =
@@ -83,8 +81,8 @@ module _ (m n k : ℕ) (joined : ℕ → ℕ → Bool) (row_0 : 0 < m) where
   lit-start v e =
       ⊎_elim
       (λ (z : v ≡ 0). z)
-      (λ (z : v ≡ 0 → ⊥). absurd (omega (arith, e, dark_start v (not-zero v z))))
-      (equal_or_not v 0)
+      (λ (z : v ≡ 0 → ⊥). absurd (omega (arith, e, dark_start v (pos_of_ne-zero z))))
+      (cases_eq v 0)
 
   module _ (first step size : ℕ) where
     entry : (x : ℕ) → x < size → get_or (in_order first step size) x no_key ≡ wire_of first step x
@@ -107,7 +105,7 @@ module _ (m n k : ℕ) (joined : ℕ → ℕ → Bool) (row_0 : 0 < m) where
               let one : get_or starts (first + x) 0 ≡ 1 = rw (lit x q) one_start in
               absurd (omega arith))
               (λ (q : dark ≤ x). (x, q, p, entry x (omega (arith, long_order first step size))))
-              (below_or_not x dark);
+              (cases_lt x dark);
         }
 
   pub standing_start :
@@ -167,18 +165,6 @@ module _ (lamp : Lamp) (m n k : ℕ) where
     room : m + n ≤ k
     room = omega (arith, running.fits.wires_fit, running.long_stamps)
 
-    -- the lists are as long as there are rows and columns
-    pub running_fits : Fits lamp (length rows) (length columns) stamps
-    running_fits = rw (running.long_rows, running.long_columns) running.fits
-
-    -- the stamps are the first rounds so far
-    pub running_so_far : stamps ≡ stamps_after (length stamps) (length rows) (length columns) (passing lamp (length columns)) t
-    running_so_far = rw (running.long_stamps, running.long_rows, running.long_columns) running.going.so_far
-
-    -- as many rounds as there are wires
-    pub running_none : m + n ≤ t → Settled m n (passing lamp n) k stamps None
-    running_none h = none_rest m n (passing lamp n) k running.fits.row_0 room t stamps running.going h
-
     module _ (rows' columns' : List Key) (stamps' : List ℕ) (end : ℕ) (turned : Turned lamp rows columns stamps rows' columns' stamps' t tail dark end) where
       ran : Rounded m n (passing lamp n) t stamps stamps' (ltb dark end)
       ran = rw (running.long_rows, running.long_columns) at turned.rounded
@@ -193,7 +179,7 @@ module _ (lamp : Lamp) (m n k : ℕ) where
           → Running lamp m n k rows' columns' stamps' (t + 1) dark end tail
       running_on h p same_rows same-columns same-stamps =
           let before : dark ≤ end = front_order in
-          let added : ltb dark end ≡ true = ⊎_elim (λ (q : dark < end). lt-ltb dark end q) (λ (q : end ≤ dark). absurd (h (omega arith))) (below_or_not dark end) in
+          let added : ltb dark end ≡ true = ⊎_elim (λ (q : dark < end). lt-ltb dark end q) (λ (q : end ≤ dark). absurd (h (omega arith))) (cases_lt dark end) in
           record {
             fits =
                 record {
@@ -216,4 +202,4 @@ module _ (lamp : Lamp) (m n k : ℕ) where
               ⊎_elim
               (λ (e : (t + 1) % 2 ≡ 0). (turned.standing.even e).front.order)
               (λ (e : (t + 1) % 2 ≡ 0 → ⊥). (turned.standing.odd e).front.order)
-              (equal_or_not ((t + 1) % 2) 0)
+              (cases_eq ((t + 1) % 2) 0)

@@ -6,15 +6,17 @@ use mathlib.Core.Logic.{inl, inr, ⊎_elim}
 use mathlib.Core.Bool.{Bool, true, false}
 use mathlib.Core.List.{List}
 use native.Mathlib.Omega.{arith}
-use native.Mathlib.Nat.{le_trans, mul-le-mul_right}
+use native.Mathlib.Nat.{le_trans, mul-le-mul_right, pos_of_ne-zero}
 use borrow.Rule.Slice.PartMut.{put_mid}
+use lib.Arith.{digits_lt}
 use lib.ListN.{length, get_or}
 use lib.Seq.{ext_get_or}
 use lib.Dec.{ltb}
 use borrow.Author.Tests.{lt-ltb, le-ltb}
+use Rattle.std.proofs.lemmas.Bool.{cases_Bool, cases_lt, cases_eq}
 use Rattle.common.specs.Limits.{max_rows, max_columns}
 use Rattle.common.specs.Lists.{tab}
-use Rattle.common.proofs.Lists.{by_test, below_or_not, equal_or_not, not-zero, length-tab, get_or-tab, within_grid}
+use Rattle.common.proofs.Lists.{length-tab, get_or-tab}
 use Rattle.conduction.specs.Round.{at_rest, is_new, first_round, Rounded}
 use Rattle.conduction.specs.Stamps.{stamps_after}
 use Rattle.conduction.specs.declared.Key.{Key}
@@ -80,7 +82,7 @@ rounded_by m n joined t dark end stamps stamps' so_far long order entries none s
           (λ (r : at_rest m n joined t ≡ true).
           absurd (omega (arith, at.1, at.2, old at.0 (rest_none_new m n joined t at.0 r))))
           (λ (r : at_rest m n joined t ≡ false). rw (lt-ltb dark end h, r))
-          (by_test (at_rest m n joined t)))
+          (cases_Bool (at_rest m n joined t)))
           (λ (h : end ≤ dark).
           let rest =
           none_new_rest m n joined t
@@ -88,9 +90,9 @@ rounded_by m n joined t dark end stamps stamps' so_far long order entries none s
           ⊎_elim
           (λ (e : is_new m n joined t w ≡ true). absurd (omega (arith, none (omega arith) w, new w e, was w, first_most m n joined t w)))
           (λ e. e)
-          (by_test (is_new m n joined t w))) in
+          (cases_Bool (is_new m n joined t w))) in
           rw (le-ltb dark end h, rest))
-          (below_or_not dark end);
+          (cases_lt dark end);
     }
 
 -- the wires of both sides
@@ -221,7 +223,7 @@ module _
     asks_across parity = (
       spreadable _ _ _ _ _ _ _ _ _ _ _ _ _ _ _ across_sides (standing.even parity)
           (λ r p. le_trans (mul-le-mul_right (length columns) (row_within r p)) fits.cells_fit)
-          (λ r c p q. omega (arith, within_grid (length rows) (length columns) r c p q, fits.cells_fit)),
+          (λ r c p q. omega (arith, digits_lt p q, fits.cells_fit)),
       placed _ _ _ _ _ _ _ _ _ _ _ _ _ _ _ across_sides (standing.even parity) fits.wires_fit,
     )
 
@@ -229,8 +231,8 @@ module _
     pub asks_back : (t % 2 ≡ 0 → ⊥) → Spreadable lamp (part columns head tail) (part rows dark (length rows)) × InPlaces (part rows dark (length rows)) stamps
     asks_back parity = (
       spreadable _ _ _ _ _ _ _ _ _ _ _ _ _ _ _ back_sides (standing.odd parity)
-          (λ c q. omega (arith, within_grid (length rows) (length columns) 0 c fits.row_0 q, fits.cells_fit))
-          (λ c r q p. omega (arith, within_grid (length rows) (length columns) r c p q, fits.cells_fit)),
+          (λ c q. omega (arith, digits_lt fits.row_0 q, fits.cells_fit))
+          (λ c r q p. omega (arith, digits_lt p q, fits.cells_fit)),
       placed _ _ _ _ _ _ _ _ _ _ _ _ _ _ _ back_sides (standing.odd parity) (omega (arith, fits.wires_fit)),
     )
 
@@ -309,6 +311,6 @@ module _
                         λ e.
                         rw (long', ← last)
                         (turned_ready m n j lamp m 1 0 n columns rows rows' stamps stamps' t head tail dark end back_sides ready standing.most long' sorted marked);
-                    odd = λ e. absurd (e (⊎_elim (λ (z : t % 2 ≡ 0). absurd (parity z)) (λ (z : t % 2 ≡ 0 → ⊥). omega (arith, not-zero (t % 2) z)) (equal_or_not (t % 2) 0)));
+                    odd = λ e. absurd (e (⊎_elim (λ (z : t % 2 ≡ 0). absurd (parity z)) (λ (z : t % 2 ≡ 0 → ⊥). omega (arith, pos_of_ne-zero z)) (cases_eq (t % 2) 0)));
                   };
             }

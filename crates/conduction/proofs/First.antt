@@ -9,21 +9,10 @@ use native.Mathlib.Nat.{add-suc, add-zero}
 use lib.ListN.{length, get_or, get_or-eq_default}
 use lib.Seq.{ext_get_or}
 use borrow.Author.Tests.{not-true}
+use Rattle.std.proofs.lemmas.Bool.{cases_Bool, cases_lt, and_from}
+use Rattle.std.proofs.Math.Bool.{and-false}
 use Rattle.common.specs.Lists.{some_below}
-use Rattle.common.proofs.Lists.{
-  and_left,
-  and_right,
-  and_both,
-  and-false,
-  by_test,
-  true_or_false,
-  below_or_not,
-  length-tab,
-  get_or-tab,
-  tab_agree,
-  some_below_at,
-  some_below_is,
-}
+use Rattle.common.proofs.Lists.{and_left, and_right, length-tab, get_or-tab, tab_agree, some_below_at, some_below_is}
 use Rattle.conduction.specs.Round.{lit, rounds, at_rest, is_new, first_among, first_round, first_rounds}
 use Rattle.conduction.specs.Lit.{FirstLitIn}
 use Rattle.conduction.proofs.Rounds.{lit_one, one_lit, length-rounds, rounds_bits, rounds-same, kept, rest_same, same_rest}
@@ -37,7 +26,7 @@ module _ (m n : ℕ) (joined : ℕ → ℕ → Bool) where
       (λ (h : m + n ≤ w).
       let past : length (rounds m n joined t) ≤ w = rw length-rounds h in
       absurd (omega (arith, lit_one (rounds m n joined t) w e, get_or-eq_default (rounds m n joined t) 0 past)))
-      (below_or_not w (m + n))
+      (cases_lt w (m + n))
 
   lit_later : (t k w : ℕ) → lit (rounds m n joined t) w ≡ true → lit (rounds m n joined (t + k)) w ≡ true
   lit_later t zero w e = rw add-zero e
@@ -51,9 +40,9 @@ module _ (m n : ℕ) (joined : ℕ → ℕ → Bool) where
   pub dark_before : (s t w : ℕ) → s ≤ t → lit (rounds m n joined t) w ≡ false → lit (rounds m n joined s) w ≡ false
   dark_before s t w h e =
       ⊎_elim
-      (λ (p : lit (rounds m n joined s) w ≡ true). absurd (true_or_false (lit (rounds m n joined t) w) (lit_stays s t w h p) e))
+      (λ (p : lit (rounds m n joined s) w ≡ true). absurd (cc (lit_stays s t w h p)))
       (λ p. p)
-      (by_test (lit (rounds m n joined s) w))
+      (cases_Bool (lit (rounds m n joined s) w))
 
   -- what the search among k sets from t on finds
   record Found (w k t s : ℕ) : Type 0 where
@@ -86,7 +75,7 @@ module _ (m n : ℕ) (joined : ℕ → ℕ → Bool) where
         is = rw (p, first_among) missed.is;
         none =
             λ u h l.
-            ⊎_elim (λ (q : t < u). missed.none u (omega arith) (omega arith)) (λ (q : u ≤ t). at_first u (omega arith)) (below_or_not t u);
+            ⊎_elim (λ (q : t < u). missed.none u (omega arith) (omega arith)) (λ (q : u ≤ t). at_first u (omega arith)) (cases_lt t u);
       }))
       (λ (found : (s : ℕ) × Found w k (suc t) s).
       inr (
@@ -98,11 +87,11 @@ module _ (m n : ℕ) (joined : ℕ → ℕ → Bool) where
           then_lit = found.1.then_lit;
           none =
               λ u h l.
-              ⊎_elim (λ (q : t < u). found.1.none u (omega arith) l) (λ (q : u ≤ t). at_first u (omega arith)) (below_or_not t u);
+              ⊎_elim (λ (q : t < u). found.1.none u (omega arith) l) (λ (q : u ≤ t). at_first u (omega arith)) (cases_lt t u);
         },
       ))
       (search_ends w k (suc t)))
-      (by_test (lit (rounds m n joined t) w))
+      (cases_Bool (lit (rounds m n joined t) w))
 
   -- a wire's number after t rounds: 0 where it is dark then, else 1 plus the round in which it was first lit
   abbrev pub StillDark : ℕ → ℕ → Type 0
@@ -129,19 +118,19 @@ module _ (m n : ℕ) (joined : ℕ → ℕ → Bool) where
   pub first_only : (w s t : ℕ) → FirstLitIn m n joined w s → FirstLitIn m n joined w t → s ≡ t
   first_only w s t a b =
       ⊎_elim
-      (λ (h : s < t). absurd (true_or_false (lit (rounds m n joined s) w) a.lit_then (b.dark_before s h)))
+      (λ (h : s < t). absurd (cc (a.lit_then, b.dark_before s h)))
       (λ (h : t ≤ s).
       ⊎_elim
-      (λ (k : t < s). absurd (true_or_false (lit (rounds m n joined t) w) b.lit_then (a.dark_before t k)))
+      (λ (k : t < s). absurd (cc (b.lit_then, a.dark_before t k)))
       (λ (k : s ≤ t). omega arith)
-      (below_or_not t s))
-      (below_or_not s t)
+      (cases_lt t s))
+      (cases_lt s t)
 
   pub first-is : (t w s : ℕ) → s ≤ t → FirstLitIn m n joined w s → first_round m n joined t w ≡ 1 + s
   first-is t w s h first =
       ⊎_elim
       (λ (c : StillDark t w).
-      absurd (true_or_false (lit (rounds m n joined t) w) (lit_stays s t w h first.lit_then) c.1))
+      absurd (cc (lit_stays s t w h first.lit_then, c.1)))
       (λ (c : LitSince t w).
       c.1 ∙ ap suc' (first_only w c.0 s c.3 first))
       (first_cases t w)
@@ -154,7 +143,7 @@ module _ (m n : ℕ) (joined : ℕ → ℕ → Bool) where
       ⊎_elim
       (λ (c : StillDark t w). c.0)
       (λ (c : LitSince t w).
-      absurd (true_or_false (lit (rounds m n joined t) w) (lit_stays c.0 t w c.2 c.3.lit_then) e))
+      absurd (cc (lit_stays c.0 t w c.2 c.3.lit_then)))
       (first_cases t w)
 
   pub first_dark : (t w : ℕ) → first_round m n joined t w ≡ 0 → lit (rounds m n joined t) w ≡ false
@@ -194,7 +183,7 @@ module _ (m n : ℕ) (joined : ℕ → ℕ → Bool) where
   pub is_new_lem : (t w : ℕ) → lit (rounds m n joined (suc t)) w ≡ true → lit (rounds m n joined t) w ≡ false → is_new m n joined t w ≡ true
   unfolding is_new
   is_new_lem t w e d =
-      and_both (lit (rounds m n joined (suc t)) w) (not (lit (rounds m n joined t) w)) e (rw d)
+      and_from (lit (rounds m n joined (suc t)) w) (not (lit (rounds m n joined t) w)) e (rw d)
 
   pub not_new : (t w : ℕ) → lit (rounds m n joined t) w ≡ true → is_new m n joined t w ≡ false
   unfolding is_new
@@ -215,14 +204,14 @@ module _ (m n : ℕ) (joined : ℕ → ℕ → Bool) where
       ⊎_elim
       (λ (c : StillDark t w).
       ⊎_elim
-      (λ (l : lit (rounds m n joined (suc t)) w ≡ true). absurd (true_or_false (is_new m n joined t w) (is_new_lem t w l c.1) old))
+      (λ (l : lit (rounds m n joined (suc t)) w ≡ true). absurd (cc (is_new_lem t w l c.1)))
       (λ (l : lit (rounds m n joined (suc t)) w ≡ false). first-none (suc t) w l ∙ sym c.0)
-      (by_test (lit (rounds m n joined (suc t)) w)))
+      (cases_Bool (lit (rounds m n joined (suc t)) w)))
       (λ (c : LitSince t w).
       first-is (suc t) w c.0 (omega (arith, c.2)) c.3 ∙ sym c.1)
       (first_cases t w) in
       kept-number ∙ rw old)
-      (by_test (is_new m n joined t w))
+      (cases_Bool (is_new m n joined t w))
 
   -- a round adds a wire just where the rounds are not at rest
   pub rest_none_new : (t w : ℕ) → at_rest m n joined t ≡ true → is_new m n joined t w ≡ false
@@ -231,16 +220,16 @@ module _ (m n : ℕ) (joined : ℕ → ℕ → Bool) where
       ⊎_elim
       (λ (e : is_new m n joined t w ≡ true).
       let lit-before : lit (rounds m n joined t) w ≡ true = rw (← (rest_same m n joined t h)) (new_lit t w e) in
-      absurd (true_or_false (lit (rounds m n joined t) w) lit-before (new_dark t w e)))
+      absurd (cc (new_dark t w e)))
       (λ e. e)
-      (by_test (is_new m n joined t w))
+      (cases_Bool (is_new m n joined t w))
 
   -- a dark wire's byte, and two sets whose wires are lit alike
   pub dark_byte : (t w : ℕ) → lit (rounds m n joined t) w ≡ false → get_or (rounds m n joined t) w 0 ≡ 0
   dark_byte t w d =
       ⊎_elim
       (λ (z : get_or (rounds m n joined t) w 0 ≡ 0). z)
-      (λ (z : get_or (rounds m n joined t) w 0 ≡ 1). absurd (true_or_false (lit (rounds m n joined t) w) (one_lit (rounds m n joined t) w z) d))
+      (λ (z : get_or (rounds m n joined t) w 0 ≡ 1). absurd (cc (one_lit (rounds m n joined t) w z)))
       (rounds_bits m n joined t w)
 
   entry-same : (s t w : ℕ) → lit (rounds m n joined s) w ≡ lit (rounds m n joined t) w → get_or (rounds m n joined s) w 0 ≡ get_or (rounds m n joined t) w 0
@@ -248,7 +237,7 @@ module _ (m n : ℕ) (joined : ℕ → ℕ → Bool) where
       ⊎_elim
       (λ (p : lit (rounds m n joined s) w ≡ true). lit_one (rounds m n joined s) w p ∙ sym (lit_one (rounds m n joined t) w (sym e ∙ p)))
       (λ (p : lit (rounds m n joined s) w ≡ false). dark_byte s w p ∙ sym (dark_byte t w (sym e ∙ p)))
-      (by_test (lit (rounds m n joined s) w))
+      (cases_Bool (lit (rounds m n joined s) w))
 
   pub none_new_rest : (t : ℕ) → ((w : ℕ) → w < m + n → is_new m n joined t w ≡ false) → at_rest m n joined t ≡ true
   none_new_rest t none =
@@ -261,10 +250,10 @@ module _ (m n : ℕ) (joined : ℕ → ℕ → Bool) where
       (λ (p : lit (rounds m n joined t) w ≡ true). kept m n joined t w below p ∙ sym p)
       (λ (p : lit (rounds m n joined t) w ≡ false).
       ⊎_elim
-      (λ (q : lit (rounds m n joined (suc t)) w ≡ true). absurd (true_or_false (is_new m n joined t w) (is_new_lem t w q p) (none w below)))
+      (λ (q : lit (rounds m n joined (suc t)) w ≡ true). absurd (cc (is_new_lem t w q p, none w below)))
       (λ (q : lit (rounds m n joined (suc t)) w ≡ false). q ∙ sym p)
-      (by_test (lit (rounds m n joined (suc t)) w)))
-      (by_test (lit (rounds m n joined t) w)))))
+      (cases_Bool (lit (rounds m n joined (suc t)) w)))
+      (cases_Bool (lit (rounds m n joined t) w)))))
 
   pub some_new : (t : ℕ) → at_rest m n joined t ≡ false → (w : ℕ) × (w < m + n) × (is_new m n joined t w ≡ true)
   some_new t moving =
@@ -272,16 +261,14 @@ module _ (m n : ℕ) (joined : ℕ → ℕ → Bool) where
       (λ (e : some_below (m + n) (is_new m n joined t) ≡ true). some_below_is (m + n) (is_new m n joined t) e)
       (λ (e : some_below (m + n) (is_new m n joined t) ≡ false).
       absurd
-      (true_or_false (at_rest m n joined t)
-      (none_new_rest t
+      (cc (none_new_rest t
       (λ w h.
       ⊎_elim
       (λ (new : is_new m n joined t w ≡ true).
-      absurd (true_or_false (some_below (m + n) (is_new m n joined t)) (some_below_at (m + n) (is_new m n joined t) w h new) e))
+      absurd (cc (some_below_at (m + n) (is_new m n joined t) w h new)))
       (λ old. old)
-      (by_test (is_new m n joined t w))))
-      moving))
-      (by_test (some_below (m + n) (is_new m n joined t)))
+      (cases_Bool (is_new m n joined t w))))))
+      (cases_Bool (some_below (m + n) (is_new m n joined t)))
 
   -- the list of the numbers: its length and its entries, which are 0 past the wires
   pub length_firsts : (t : ℕ) → length (first_rounds m n joined t) ≡ m + n
@@ -301,8 +288,8 @@ module _ (m n : ℕ) (joined : ℕ → ℕ → Bool) where
       (⊎_elim
       (λ (e : lit (rounds m n joined t) w ≡ true). absurd (omega (arith, lit_below t w e)))
       (λ e. e)
-      (by_test (lit (rounds m n joined t) w)))))
-      (below_or_not w (m + n))
+      (cases_Bool (lit (rounds m n joined t) w)))))
+      (cases_lt w (m + n))
 
   -- at rest a round changes none of them
   pub firsts_rest : (t : ℕ) → at_rest m n joined t ≡ true → first_rounds m n joined (suc t) ≡ first_rounds m n joined t

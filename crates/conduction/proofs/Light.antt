@@ -8,9 +8,9 @@ use native.Mathlib.Omega.{arith}
 use lib.ListN.{get_or}
 use lib.Dec.{leb, ltb}
 use borrow.Author.Tests.{leb-true, ltb-false, le-ltb, not-false}
+use Rattle.std.proofs.lemmas.Bool.{cases_Bool, cases_lt}
 use Rattle.common.specs.Limits.{max_rows, max_columns}
 use Rattle.common.specs.Outcome.{Outcome, done, Ground, ◌when◌, lowest, most_number, unless}
-use Rattle.common.proofs.Lists.{by_test, true_or_false, below_or_not}
 use Rattle.common.proofs.Outcome.{unless_done, not_met, others}
 use Rattle.common.proofs.Within.{EndsWithin, ends_done, unless_ends, within, most_line}
 use Rattle.cells.specs.declared.Crossbar.{Crossbar}
@@ -45,8 +45,8 @@ unfolding sound in_range
 sound_row x cells h =
     ⊎_elim
     (λ (p : leb 1 x.rows ≡ true). leb-true 1 x.rows p)
-    (λ (p : leb 1 x.rows ≡ false). absurd (true_or_false false (rw (p, sound, in_range) at h) refl))
-    (by_test (leb 1 x.rows))
+    (λ (p : leb 1 x.rows ≡ false). absurd (cc (rw (p, sound, in_range) at h)))
+    (cases_Bool (leb 1 x.rows))
 
 -- the rounds from row 0, where there is one, answer so
 module _ (m n : ℕ) (j : ℕ → ℕ → Bool) (row_0 : 0 < m) (count : ℕ) (rest : at_rest m n j count ≡ true) where
@@ -60,9 +60,9 @@ module _ (m n : ℕ) (j : ℕ → ℕ → Bool) (row_0 : 0 < m) (count : ℕ) (r
   first_by_rest w t first =
       ⊎_elim
       (λ (h : count < t).
-      absurd (true_or_false (lit (rounds m n j count) w) (lit_at_rest t w first.lit_then) (first.dark_before count h)))
+      absurd (cc (lit_at_rest t w first.lit_then, first.dark_before count h)))
       (λ (h : t ≤ count). h)
-      (below_or_not count t)
+      (cases_lt count t)
 
   -- what the numbers at rest say
   pub number_dark : (w : ℕ) → (first_round m n j count w ≡ 0) ↔ (lit (rounds m n j count) w ≡ false)
@@ -77,10 +77,9 @@ module _ (m n : ℕ) (j : ℕ → ℕ → Bool) (row_0 : 0 < m) (count : ℕ) (r
         ⊎_elim
         (λ (l : lit (rounds m n j count) (place m w) ≡ true). (lit_short m n j row_0 count w k l).0)
         (λ (l : lit (rounds m n j count) (place m w) ≡ false). absurd (some (first-none m n j count (place m w) l)))
-        (by_test (lit (rounds m n j count) (place m w))),
+        (cases_Bool (lit (rounds m n j count) (place m w))),
     λ chain z.
-        true_or_false (lit (rounds m n j count) (place m w)) (lit_at_rest (cell_count chain) (place m w) (chain_lights m n j row_0 w chain))
-        (first_dark m n j count (place m w) z),
+        cc (lit_at_rest (cell_count chain) (place m w) (chain_lights m n j row_0 w chain), first_dark m n j count (place m w) z),
   )
 
   first_least : (w : Wire) (t : ℕ) → Within m n w → FirstLitIn m n j (place m w) t → LeastCells m n j w t
@@ -90,9 +89,9 @@ module _ (m n : ℕ) (j : ℕ → ℕ → Bool) (row_0 : 0 < m) (count : ℕ) (r
       ⊎_elim
       (λ (h : cell_count c < t).
       absurd
-      (true_or_false (lit (rounds m n j (cell_count c)) (place m w)) (chain_lights m n j row_0 w c) (first.dark_before (cell_count c) h)))
+      (cc (chain_lights m n j row_0 w c, first.dark_before (cell_count c) h)))
       (λ (h : t ≤ cell_count c). h)
-      (below_or_not (cell_count c) t) in
+      (cases_lt (cell_count c) t) in
       let short = lit_short m n j row_0 t w k first.lit_then in
       record { chain = short.0; has = omega (arith, short.1, fewest short.0); fewest = fewest }
 
@@ -106,7 +105,7 @@ module _ (m n : ℕ) (j : ℕ → ℕ → Bool) (row_0 : 0 < m) (count : ℕ) (r
             (λ (l : lit (rounds m n j s) (place m w) ≡ true).
             let short = lit_short m n j row_0 s w k l in absurd (omega (arith, short.1, least.fewest short.0)))
             (λ l. l)
-            (by_test (lit (rounds m n j s) (place m w)));
+            (cases_Bool (lit (rounds m n j s) (place m w)));
       }
 
   pub number_cells : (w : Wire) (t : ℕ) → Within m n w → (first_round m n j count (place m w) ≡ 1 + t) ↔ LeastCells m n j w t

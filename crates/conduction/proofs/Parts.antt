@@ -1,17 +1,20 @@
 -- The parts of a round one after the other: what one wire more joins, one wire more with a new stamp, and the wires in rising order.
-use Prim.Native.Nat.{ℕ, zero, suc, ◌+◌, ◌-◌, ◌≤◌, ◌<◌}
+use Prim.Native.Nat.{ℕ, suc, ◌+◌, ◌-◌, ◌≤◌, ◌<◌}
 use mathlib.Core.Path.{◌≡◌, refl, sym, ap, ◌∙◌}
 use mathlib.Core.Logic.{⊎_elim}
-use mathlib.Core.Bool.{Bool, true, false, ◌||◌}
+use mathlib.Core.Bool.{Bool, true, ◌||◌}
 use mathlib.Core.List.{List, [], ◌∷◌}
 use native.Mathlib.Omega.{arith}
 use lib.ListN.{length, get_or, set, take, drop}
 use lib.Seq.{get_or-set_same, get_or-set_other}
 use lib.Dec.{eqb}
 use borrow.Author.Tests.{eq-eqb, ne_eqb}
-use Rattle.std.proofs.lemmas.List.{get_or-drop}
+use Rattle.std.proofs.lemmas.List.{get_or-drop, take_more}
+use Rattle.std.proofs.lemmas.List.Recursion.{or_push}
+use Rattle.std.proofs.Math.Bool.{or_comm}
+use Rattle.std.proofs.lemmas.Bool.{cases_eq, or_cases}
 use Rattle.common.specs.Lists.{any_of}
-use Rattle.common.proofs.Lists.{equal_or_not, or_cases, any_of_at}
+use Rattle.common.proofs.Lists.{any_of_at}
 use Rattle.conduction.specs.declared.Key.{Key}
 use Rattle.conduction.specs.declared.Lamp.{Lamp}
 use Rattle.conduction.specs.Wires.{no_key, part, passes, joined_to, Sorted, among, NewlyStamped}
@@ -21,17 +24,10 @@ use Rattle.conduction.proofs.Sorting.{sorted_none, sorted_both, sorted_as, part_
 pub any_more :
     {A : Type 0} (f : A → Bool) (l : List A) (i : ℕ) (d : A) → i < length l → any_of f (take (i + 1) l) ≡ f (get_or l i d) || any_of f (take i l)
 unfolding any_of
-any_more f [] i d h = absurd (omega arith)
-any_more f (a ∷ l) zero d h = refl
-any_more f (a ∷ l) (suc i) d h =
-    let e : suc i + 1 ≡ suc (i + 1) = omega arith in
-    rw e (ap (λ (b : Bool). f a || b) (any_more f l i d (omega arith)) ∙ swapped (f a) (f (get_or l i d)) (any_of f (take i l)))
-  where
-    swapped : (a b c : Bool) → a || (b || c) ≡ b || (a || c)
-    swapped true true c = refl
-    swapped true false c = refl
-    swapped false true c = refl
-    swapped false false c = refl
+any_more f l i d h =
+    ap (any_of f) (take_more l i d h)
+    ∙ or_push (any_of f) f refl (λ _ _. refl) (take i l) (get_or l i d)
+    ∙ or_comm (any_of f (take i l)) (f (get_or l i d))
 
 -- f holds of an entry of a part of a list just where it holds of some entry of the part
 any_is : {A : Type 0} (f : A → Bool) (l : List A) (d : A) → any_of f l ≡ true → (k : ℕ) × (k < length l) × (f (get_or l k d) ≡ true)
@@ -111,5 +107,5 @@ module _ (keys : List Key) (new : ℕ) where
             (λ (p : v ≡ place → ⊥).
             rw (ne_eqb (get_or keys i no_key).place v (λ (q : (get_or keys i no_key).place ≡ v). p (sym q ∙ sym e)))
             (get_or-set_other after place v new 0 p ∙ m.stamps v))
-            (equal_or_not v place));
+            (cases_eq v place));
       }

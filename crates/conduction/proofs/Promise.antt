@@ -3,6 +3,7 @@ use Prim.Native.Nat.{ℕ, ◌+◌, ◌-◌, ◌*◌, ◌≤◌, ◌<◌}
 use mathlib.Core.Path.{◌≡◌, sym, ap, ◌∙◌}
 use mathlib.Core.Bool.{Bool, true, false, ◌&&◌}
 use Rattle.std.specs.Prelude.{Option, Some, None, Result, Ok, Err}
+use Rattle.std.proofs.Math.Bool.{and-false}
 use mathlib.Core.List.{List}
 use native.Mathlib.Omega.{arith}
 use native.Mathlib.Nat.{mul-le-mul_right}
@@ -12,7 +13,7 @@ use lib.Dec.{leb, ltb}
 use borrow.Author.Tests.{leb-true, lt-ltb, le-ltb}
 use Rattle.common.specs.Limits.{max_switches}
 use Rattle.common.specs.Lists.{zeros, padded, tab}
-use Rattle.common.proofs.Lists.{and-false, all_of_at, get_or-tab}
+use Rattle.common.proofs.Lists.{all_of_at, get_or-tab}
 use Rattle.common.specs.declared.Refusal.{Refusal}
 use Rattle.common.specs.Fault.{fault_of, handed}
 use Rattle.common.specs.Outcome.{refused, lowest, unless, buffer_of, Answered}

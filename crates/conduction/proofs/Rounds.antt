@@ -11,8 +11,9 @@ use lib.ListN.{length, get_or, length-append, get_or-append, get_or-eq_default}
 use lib.Seq.{get_or-append-add}
 use lib.Dec.{eqb}
 use borrow.Author.Tests.{eqb-true, eq-eqb}
+use Rattle.std.proofs.lemmas.Bool.{cases_lt, or_left}
 use Rattle.common.specs.Lists.{bit, tab, some_below}
-use Rattle.common.proofs.Lists.{eqb_bit, or_left, length-tab, get_or-tab, below_or_not, same_eq, eq_same, bit_most, tab_agree}
+use Rattle.common.proofs.Lists.{eqb_bit, length-tab, get_or-tab, same_eq, eq_same, bit_most, tab_agree}
 use Rattle.conduction.specs.Round.{lit, start, round, rounds, at_rest}
 use Rattle.conduction.specs.Chain.{Wire, row, column, place, Within}
 
@@ -45,7 +46,7 @@ module _ (m n : ℕ) where
       ⊎_elim
       (λ (p : i < m). (row i, p, refl))
       (λ (p : m ≤ i). (column (i - m), omega arith, omega arith))
-      (below_or_not i m)
+      (cases_lt i m)
 
   -- and each wire's place is below m + n
   pub place_below : (w : Wire) → Within m n w → place m w < m + n
@@ -101,7 +102,7 @@ module _ (m n : ℕ) (joined : ℕ → ℕ → Bool) where
       (λ (h : m + n ≤ i).
       let past : length (rounds m n joined t) ≤ i = rw length-rounds h in
       rw (get_or-eq_default (rounds m n joined t) 0 past) (omega arith))
-      (below_or_not i (m + n))
+      (cases_lt i (m + n))
 
   pub rounds_bits : (t i : ℕ) → (get_or (rounds m n joined t) i 0 ≡ 0) ⊎ (get_or (rounds m n joined t) i 0 ≡ 1)
   rounds_bits t i =
@@ -109,7 +110,7 @@ module _ (m n : ℕ) (joined : ℕ → ℕ → Bool) where
       ⊎_elim
       (λ (h : get_or (rounds m n joined t) i 0 < 1). inl (omega arith))
       (λ (h : 1 ≤ get_or (rounds m n joined t) i 0). inr (omega arith))
-      (below_or_not (get_or (rounds m n joined t) i 0) 1)
+      (cases_lt (get_or (rounds m n joined t) i 0) 1)
 
   -- "Each round keeps every lit wire"
   next_keeps : (set : List ℕ) (w : Wire) → lit set (place m w) ≡ true → next set w ≡ true

@@ -7,7 +7,7 @@ use mathlib.Core.Bool.{Bool, true}
 use mathlib.Core.List.{List, [], ◌∷◌}
 use native.Mathlib.Omega.{arith}
 use lib.ListN.{length, get_or}
-use Rattle.common.proofs.Lists.{below_or_not}
+use Rattle.std.proofs.lemmas.Bool.{cases_lt}
 use Rattle.conduction.specs.Round.{rounds, at_rest}
 use Rattle.conduction.proofs.Rounds.{lit_one, one_lit, length-rounds, rounds_small, kept, row_0_lit, same_rest, rest_stays}
 
@@ -42,7 +42,7 @@ equal_or_more (a ∷ s) (b ∷ t) e h =
     ⊎_elim
     (λ (q : a < b). inr (rw p (omega arith)))
     (λ (q : b ≤ a). let ab : b ≡ a = omega arith in inl (rw (p, ab)))
-    (below_or_not a b))
+    (cases_lt a b))
     (λ (p : total s < total t). inr (omega arith))
     (equal_or_more s t (omega arith) (λ i k. h (suc i) (omega arith)))
 
@@ -56,7 +56,7 @@ module _ (m n : ℕ) (joined : ℕ → ℕ → Bool) where
       let one : get_or (rounds m n joined t) i 0 ≡ 1 = omega (arith, rounds_small m n joined t i) in
       let lit-after = kept m n joined t i h (one_lit (rounds m n joined t) i one) in
       omega (arith, lit_one (rounds m n joined (suc t)) i lit-after))
-      (below_or_not (get_or (rounds m n joined t) i 0) 1)
+      (cases_lt (get_or (rounds m n joined t) i 0) 1)
 
   -- a round adds a wire, or the rounds are at rest
   pub rest_or_more :

@@ -11,7 +11,8 @@ use lib.Seq.{length-take-le, get_or-take}
 use borrow.Rule.Slice.PartMut.{put_mid, same_len_mid}
 use Rattle.std.proofs.lemmas.List.{get_or-drop, get_or-append-add, drop_at}
 use Rattle.std.specs.List.{SwappedAt}
-use Rattle.common.proofs.Lists.{below_or_not, equal_or_not, at_or_below, or_left, or_right}
+use Rattle.std.proofs.lemmas.Bool.{cases_lt, cases_eq, or_left, or_right}
+use Rattle.common.proofs.Lists.{at_or_below}
 use Rattle.conduction.specs.declared.Key.{Key}
 use Rattle.conduction.specs.Wires.{no_key, part, Exchanged, Sorted}
 
@@ -33,7 +34,7 @@ exchanged_then first second l l' l'' later long a b =
           (λ (q : second ≤ at.0).
           let to = b.forth at.0 q (omega (arith, at.2)) in
           (to.0, omega (arith, to.1), omega (arith, to.2), to.3 ∙ at.3))
-          (below_or_not at.0 second);
+          (cases_lt at.0 second);
       back =
           λ k p h.
           ⊎_elim
@@ -42,7 +43,7 @@ exchanged_then first second l l' l'' later long a b =
           let to = b.back k q (omega arith) in
           let at = a.back to.0 (omega (arith, to.1)) (omega (arith, to.2)) in
           (at.0, at.1, at.2, at.3 ∙ to.3))
-          (below_or_not k second);
+          (cases_lt k second);
     }
 
 -- two entries exchanged
@@ -59,8 +60,8 @@ exchanged_two first l l' i j in-i in-j p q swapped =
           ⊎_elim
           (λ (f : k ≡ j). (i, p, in-i, swapped.0 no_key ∙ ap (λ (x : ℕ). get_or l x no_key) (sym f)))
           (λ (f : k ≡ j → ⊥). (k, r, h, swapped.2 k no_key e f))
-          (equal_or_not k j))
-          (equal_or_not k i);
+          (cases_eq k j))
+          (cases_eq k i);
       back =
           λ k r h.
           ⊎_elim
@@ -69,8 +70,8 @@ exchanged_two first l l' i j in-i in-j p q swapped =
           ⊎_elim
           (λ (f : k ≡ j). (i, p, in-i, sym (ap (λ (x : ℕ). get_or l' x no_key) f ∙ swapped.1 no_key)))
           (λ (f : k ≡ j → ⊥). (k, r, h, sym (swapped.2 k no_key e f)))
-          (equal_or_not k j))
-          (equal_or_not k i);
+          (cases_eq k j))
+          (cases_eq k i);
     }
 
 module _ (f : Key → Bool) (first : ℕ) where
@@ -96,7 +97,7 @@ module _ (f : Key → Bool) (first : ℕ) where
           from = sorted.from;
           upto = omega (arith, sorted.upto);
           named = sorted.named;
-          others = λ k p q. ⊎_elim (λ (r : k < i). sorted.others k p r) (λ (r : i ≤ k). none k r q) (below_or_not k i);
+          others = λ k p q. ⊎_elim (λ (r : k < i). sorted.others k p r) (λ (r : i ≤ k). none k r q) (cases_lt k i);
           rest = λ k p. sorted.rest k (omega arith);
         }
 
@@ -145,7 +146,7 @@ module _ (f : Key → Bool) (first : ℕ) where
               ⊎_elim
               (λ (r : k < lit). rw (more.exchanged.kept k r) (sorted.named k p r))
               (λ (r : lit ≤ k). more.named k r q)
-              (below_or_not k lit);
+              (cases_lt k lit);
           others = more.others;
           rest = λ k p. more.rest k p ∙ sorted.rest k (omega arith);
         }
@@ -165,7 +166,7 @@ sorted_both f g first l l' l'' lit lit' long a b =
           (λ (r : k < lit).
           or_right (g (get_or l'' k no_key)) (f (get_or l'' k no_key)) (rw (b.exchanged.kept k r) (a.named k p r)))
           (λ (r : lit ≤ k). or_left (g (get_or l'' k no_key)) (f (get_or l'' k no_key)) (b.named k r q))
-          (below_or_not k lit);
+          (cases_lt k lit);
       others =
           λ k p q.
           let was = b.exchanged.back k (omega (arith, b.from)) (omega arith) in
@@ -195,7 +196,7 @@ exchanged_all Q first l l' e all k h =
     ⊎_elim
     (λ (p : k < first). rw (e.kept k p) (all k h))
     (λ (p : first ≤ k). let was = e.back k p h in rw (← was.3) (all was.0 was.2))
-    (below_or_not k first)
+    (cases_lt k first)
 
 -- a part of a list: its length and its entries
 pub part_long : {A : Type 0} (l : List A) (from to : ℕ) → to ≤ length l → length (part l from to) ≡ to - from
@@ -216,7 +217,7 @@ module _ (l : List Key) (d : ℕ) (within : d ≤ length l) where
       (λ (h : length l - d ≤ k).
       get_or-eq_default (part l d (length l)) no_key (omega (arith, rest_long))
       ∙ sym (get_or-eq_default l no_key {n = d + k} (omega arith)))
-      (below_or_not k (length l - d))
+      (cases_lt k (length l - d))
 
   module _ (t : List Key) (long : length t ≡ length (part l d (length l))) where
     pub put_long : length (put_mid d (length l - d) l t) ≡ length l

@@ -1,36 +1,21 @@
 -- Rounds by stamps: a wire is new in a round just where it was dark and a conducting cell joins it to a wire that the round before lit. The
 -- reason is that a wire lit earlier has had its neighbours lit by then.
 use Prim.Native.Nat.{ℕ, suc, ◌+◌, ◌-◌, ◌≤◌, ◌<◌}
-use mathlib.Core.Path.{◌≡◌, refl, sym, ap, ◌∙◌}
+use mathlib.Core.Path.{◌≡◌, sym, ap, ◌∙◌}
 use mathlib.Core.Logic.{◌⊎◌, inl, inr, ⊎_elim}
 use mathlib.Core.Bool.{Bool, true, false, ◌&&◌, ◌||◌}
 use mathlib.Core.List.{List}
+use native.Mathlib.Nat.{pos_of_ne-zero}
 use native.Mathlib.Omega.{arith}
 use lib.ListN.{length, get_or, set, length-set, length-replicate, get_or-replicate}
 use lib.Seq.{ext_get_or, get_or-set_same, get_or-set_other}
 use lib.Dec.{eqb, leb, ltb}
 use borrow.Author.Tests.{ltb-true, leb-true, eqb-true, lt-ltb, le-ltb, le-leb, eq-eqb, ne_eqb}
+use Rattle.std.proofs.lemmas.Bool.{and_parts, cases_Bool, cases_lt, cases_eq, and_from, or_cases, or_right}
+use Rattle.std.proofs.Math.Bool.{and-false, or-false, or_comm}
+use Rattle.std.specs.Cmp.{both_ways}
 use Rattle.common.specs.Lists.{zeros, padded, tab, some_below}
-use Rattle.common.proofs.Lists.{
-  and_left,
-  and_right,
-  and_both,
-  or_cases,
-  or_right,
-  or-false,
-  both_ways,
-  by_test,
-  true_or_false,
-  below_or_not,
-  equal_or_not,
-  not-zero,
-  length-tab,
-  get_or-tab,
-  some_below_at,
-  some_below_is,
-  length-padded,
-  get_or-padded_any,
-}
+use Rattle.common.proofs.Lists.{and_left, and_right, length-tab, get_or-tab, some_below_at, some_below_is, length-padded, get_or-padded_any}
 use Rattle.conduction.specs.Round.{lit, round, rounds, at_rest, is_new, first_round, first_rounds}
 use Rattle.conduction.specs.Chain.{Wire, row, column, place, Within}
 use Rattle.conduction.specs.Stamps.{stamps_after}
@@ -84,14 +69,11 @@ stamp_cases new b old =
     (λ (h : eqb old 0 && b ≡ true).
     inr (rw (stamp, h), eqb-true old 0 (and_left (eqb old 0) b h), and_right (eqb old 0) b h))
     (λ (h : eqb old 0 && b ≡ false). inl (rw (stamp, h)))
-    (by_test (eqb old 0 && b))
+    (cases_Bool (eqb old 0 && b))
 
 pub stamp_out : (new old : ℕ) → stamp new false old ≡ old
-stamp_out new old =
-    ⊎_elim
-    (λ e. e)
-    (λ (e : (stamp new false old ≡ new) × (old ≡ 0) × (◌≡◌ {A = Bool} false true)). absurd (true_or_false false e.2 refl))
-    (stamp_cases new false old)
+unfolding stamp
+stamp_out new old = ap (λ (b : Bool). elim b [ true ↦ new | false ↦ old ]) (and-false (eqb old 0))
 
 module _ (m n : ℕ) (joined : ℕ → ℕ → Bool) where
   -- the wires that meet: a row and a column, either way round
@@ -111,16 +93,7 @@ module _ (m n : ℕ) (joined : ℕ → ℕ → Bool) where
 
   pub meets_back : (r c : ℕ) → r < m → c < n → meets m n joined (m + c) r ≡ joined r c
   unfolding meets
-  meets_back r c h k =
-      let at : m + c - m ≡ c = omega arith in
-      rw (
-        meets,
-        lt-ltb r m h,
-        le-leb m (m + c) (omega arith),
-        lt-ltb (m + c) (m + n) (omega arith),
-        le-ltb (m + c) m (omega arith),
-        at,
-      )
+  meets_back r c h k = rw (meets, or_comm) (meets_across r c h k)
 
   pub record Across (r v : ℕ) : Type 0 where
     pub row_below : r < m
@@ -130,13 +103,14 @@ module _ (m n : ℕ) (joined : ℕ → ℕ → Bool) where
 
   across : (r v : ℕ) → ltb r m && leb m v && ltb v (m + n) && joined r (v - m) ≡ true → Across r v
   across r v h =
-      let three = and_left (ltb r m && leb m v && ltb v (m + n)) (joined r (v - m)) h in
-      let two = and_left (ltb r m && leb m v) (ltb v (m + n)) three in
+      let all = and_parts (ltb r m && leb m v && ltb v (m + n)) (joined r (v - m)) h in
+      let below = and_parts (ltb r m && leb m v) (ltb v (m + n)) all.0 in
+      let row = and_parts (ltb r m) (leb m v) below.0 in
       record {
-        row_below = ltb-true r m (and_left (ltb r m) (leb m v) two);
-        from = leb-true m v (and_right (ltb r m) (leb m v) two);
-        column_below = ltb-true v (m + n) (and_right (ltb r m && leb m v) (ltb v (m + n)) three);
-        joins = and_right (ltb r m && leb m v && ltb v (m + n)) (joined r (v - m)) h;
+        row_below = ltb-true r m row.0;
+        from = leb-true m v row.1;
+        column_below = ltb-true v (m + n) below.1;
+        joins = all.1;
       }
 
   pub meets_is : (u v : ℕ) → meets m n joined u v ≡ true → Across u v ⊎ Across v u
@@ -165,7 +139,7 @@ module _ (m n : ℕ) (joined : ℕ → ℕ → Bool) where
   unfolding touched
   touched_by set u v e l =
       some_below_at (m + n) (λ w. meets m n joined w v && lit set w) u (meets_below u v e).0
-      (and_both (meets m n joined u v) (lit set u) e l)
+      (and_from (meets m n joined u v) (lit set u) e l)
 
   touched_is : (set : List ℕ) (v : ℕ) → touched set v ≡ true → (u : ℕ) × (meets m n joined u v ≡ true) × (lit set u ≡ true)
   unfolding touched
@@ -194,7 +168,7 @@ module _ (m n : ℕ) (joined : ℕ → ℕ → Bool) where
       (λ (a : Across r u).
       let at : m + (u - m) ≡ u = omega (arith, a.from) in
       some_below_at n (λ c. joined r c && lit set (m + c)) (u - m) (omega (arith, a.from, a.column_below))
-      (and_both (joined r (u - m)) (lit set (m + (u - m))) a.joins (rw at found.2)))
+      (and_from (joined r (u - m)) (lit set (m + (u - m))) a.joins (rw at found.2)))
       (meets_is u r found.1)))
   next_touched set (column c) h =
       ap (λ (b : Bool). lit set (m + c) || b)
@@ -213,7 +187,7 @@ module _ (m n : ℕ) (joined : ℕ → ℕ → Bool) where
       let at : m + c - m ≡ c = omega arith in
       let joins : joined u c ≡ true = rw at at a.joins in
       some_below_at m (λ r. joined r c && lit set r) u a.row_below
-      (and_both (joined u c) (lit set u) joins found.2))
+      (and_from (joined u c) (lit set u) joins found.2))
       (λ (a : Across (m + c) u). absurd (omega (arith, a.row_below)))
       (meets_is u (m + c) found.1)))
 
@@ -227,7 +201,7 @@ module _ (m n : ℕ) (joined : ℕ → ℕ → Bool) where
   unfolding reached
   reached_by t stamps u v e s =
       some_below_at (m + n) (λ w. meets m n joined w v && eqb (get_or stamps w 0) (t + 1)) u (meets_below u v e).0
-      (and_both (meets m n joined u v) (eqb (get_or stamps u 0) (t + 1)) e (eq-eqb (get_or stamps u 0) (t + 1) s))
+      (and_from (meets m n joined u v) (eqb (get_or stamps u 0) (t + 1)) e (eq-eqb (get_or stamps u 0) (t + 1) s))
 
   pub reached_is :
       (t : ℕ) (stamps : List ℕ) (v : ℕ) → reached m n joined t stamps v ≡ true
@@ -269,13 +243,13 @@ module _ (m n : ℕ) (joined : ℕ → ℕ → Bool) where
         (λ e.
         let below = lit_below m n joined (suc t) v (new_lit m n joined t v e) in
         ⊎_elim
-        (λ (l : lit (rounds m n joined t) v ≡ true). absurd (true_or_false (lit (rounds m n joined t) v) l dark))
+        (λ (l : lit (rounds m n joined t) v ≡ true). absurd cc)
         (λ (l : touched (rounds m n joined t) v ≡ true).
         let found = touched_is (rounds m n joined t) v l in
         let u = found.0 in
         ⊎_elim
         (λ (c : StillDark m n joined t u).
-        absurd (true_or_false (lit (rounds m n joined t) u) found.2 c.1))
+        absurd (cc (found.2, c.1)))
         (λ (c : LitSince m n joined t u).
         let s = c.0 in
         ⊎_elim
@@ -284,9 +258,9 @@ module _ (m n : ℕ) (joined : ℕ → ℕ → Bool) where
         round_touched (rounds m n joined s) v below
         ∙ or_right (lit (rounds m n joined s) v) (touched (rounds m n joined s) v)
         (touched_by (rounds m n joined s) u v found.1 c.3.lit_then) in
-        absurd (true_or_false (lit (rounds m n joined t) v) (lit_stays m n joined (suc s) t v (omega arith) by-then) dark))
+        absurd (cc (lit_stays m n joined (suc s) t v (omega arith) by-then)))
         (λ (last : t ≤ s). reached_by t stamps u v found.1 (omega (arith, so_far u, c.1, c.2)))
-        (below_or_not s t))
+        (cases_lt s t))
         (first_cases m n joined t u))
         (or_cases (lit (rounds m n joined t) v) (touched (rounds m n joined t) v)
         (sym (round_touched (rounds m n joined t) v below) ∙ new_lit m n joined t v e)))
@@ -303,7 +277,7 @@ module _ (m n : ℕ) (joined : ℕ → ℕ → Bool) where
         ⊎_elim
         (λ (l : lit (rounds m n joined t) v ≡ true). l)
         (λ (l : lit (rounds m n joined t) v ≡ false). absurd (omega (arith, so_far v, first-none m n joined t v l)))
-        (by_test (lit (rounds m n joined t) v)) in
+        (cases_Bool (lit (rounds m n joined t) v)) in
         stamp_kept (t + 2) (reached m n joined t stamps v) (get_or stamps v 0) some ∙ sym (rw (not_new m n joined t v was-lit)))
         (λ (none : get_or stamps v 0 ≤ 0).
         let zero-stamp : get_or stamps v 0 ≡ 0 = omega arith in
@@ -312,8 +286,8 @@ module _ (m n : ℕ) (joined : ℕ → ℕ → Bool) where
         (λ (new : is_new m n joined t v ≡ true).
         stamp_new (t + 2) (reached m n joined t stamps v) (get_or stamps v 0) zero-stamp (is ∙ new) ∙ sym (rw new))
         (λ (old : is_new m n joined t v ≡ false). rw (is, old) (stamp_out (t + 2) (get_or stamps v 0)))
-        (by_test (is_new m n joined t v)))
-        (below_or_not 0 (get_or stamps v 0))
+        (cases_Bool (is_new m n joined t v)))
+        (cases_lt 0 (get_or stamps v 0))
 
   -- the stamps after a round that gave each new wire its own
   pub stamps_next :
@@ -353,7 +327,7 @@ module _ (m n : ℕ) (joined : ℕ → ℕ → Bool) where
         let below = lit_below m n joined 0 v l in
         absurd (omega (arith, eqb-true v 0 (sym (start-lit m n v below) ∙ l))))
         (λ l. l)
-        (by_test (lit (rounds m n joined 0) v)))
+        (cases_Bool (lit (rounds m n joined 0) v)))
 
     -- as they are written: zeros, and 1 for row 0
     pub start-written : (k : ℕ) → m + n ≤ k → set (zeros k) 0 1 ≡ stamps_after k m n joined 0
@@ -368,5 +342,5 @@ module _ (m n : ℕ) (joined : ℕ → ℕ → Bool) where
         (λ (z : v ≡ 0 → ⊥).
         get_or-set_other (zeros k) 0 v 1 0 z
         ∙ get_or-replicate {A = ℕ} k v 0 0 below
-        ∙ sym (stamps_entry k 0 v ∙ start_none v (not-zero v z)))
-        (equal_or_not v 0))
+        ∙ sym (stamps_entry k 0 v ∙ start_none v (pos_of_ne-zero z)))
+        (cases_eq v 0))

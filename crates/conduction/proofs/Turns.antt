@@ -9,7 +9,8 @@ use native.Mathlib.Omega.{arith}
 use lib.ListN.{length, get_or}
 use lib.Dec.{eqb}
 use borrow.Author.Tests.{eqb-true, eq-eqb}
-use Rattle.common.proofs.Lists.{both_ways, by_test, true_or_false, below_or_not}
+use Rattle.std.proofs.lemmas.Bool.{cases_Bool, cases_lt}
+use Rattle.std.specs.Cmp.{both_ways}
 use Rattle.conduction.specs.declared.Key.{Key}
 use Rattle.conduction.specs.declared.Lamp.{Lamp}
 use Rattle.conduction.specs.Wires.{no_key, part, wire_of, passes, joined_to, Sorted, among, NewlyStamped, Sided, Fronted, TurnReady}
@@ -26,8 +27,8 @@ number_in first size v =
     ⊎_elim
     (λ (q : v < first + size). inl (v - first, omega arith, omega arith))
     (λ (q : first + size ≤ v). inr (λ y h e. omega arith))
-    (below_or_not v (first + size)))
-    (below_or_not v first)
+    (cases_lt v (first + size)))
+    (cases_lt v first)
 
 -- which wires meet: one of the side that the round comes from and one of the other side, in the cell at the sum of what they add
 pub record Sides (m n : ℕ) (joined : ℕ → ℕ → Bool) (lamp : Lamp) (first step size first' step' size' : ℕ) : Type 0 where
@@ -93,7 +94,7 @@ module _
         (λ (p : (z : ℕ) × (z < length to) × (found.0 ≡ first' + z)). absurd (ready.apart p.0 p.1 (rw (← p.2) found.2)))
         (sides.ends found.0 v found.1))
         (λ e. e)
-        (by_test (reached m n joined t stamps v))
+        (cases_Bool (reached m n joined t stamps v))
 
     -- an entry of the list from `dark` on: it is a dark wire
     entry_dark :
@@ -161,14 +162,14 @@ module _
         ⊎_elim
         (λ (q : at.0 < end).
         let place = ap (λ (k : Key). k.place) at.3 ∙ sym p.2 in
-        absurd (true_or_false (among (part to' dark end) v) (rw place at (is_among at.0 at.1 q)) e))
+        absurd (cc (rw place at (is_among at.0 at.1 q))))
         (λ (q : end ≤ at.0). rw p.2 (reached_joined y p.1 ∙ rw at.3 at (sorted.others at.0 q at.2)))
-        (below_or_not at.0 end))
+        (cases_lt at.0 end))
         (λ p. reached_no v p)
         (number_in first' (length to) v) in
         rw unreached (stamp_out (t + 2) (get_or stamps v 0)))
-        (below_or_not 0 (get_or stamps v 0))))
-        (by_test (among (part to' dark end) v))
+        (cases_lt 0 (get_or stamps v 0))))
+        (cases_Bool (among (part to' dark end) v))
 
     -- a wire gets the new stamp just where it was dark and is reached
     new_is : (v : ℕ) → get_or stamps' v 0 ≡ t + 2 → (get_or stamps v 0 ≡ 0) × (reached m n joined t stamps v ≡ true)
@@ -192,7 +193,7 @@ module _
               (λ (r : reached m n joined t stamps v ≡ true).
               absurd (omega (arith, e, turned_entry v, stamp_new (t + 2) (reached m n joined t stamps v) (get_or stamps v 0) old r)))
               (λ r. r)
-              (by_test (reached m n joined t stamps v)),
+              (cases_Bool (reached m n joined t stamps v)),
         )
 
     -- the stamps of the side that the round comes from stay
@@ -224,9 +225,8 @@ module _
               (λ (q : at.0 < end). (at.0, at.1, q, at.3))
               (λ (q : end ≤ at.0).
               absurd
-              (true_or_false (joined_to lamp (part from head tail) (wire_of first' step' y)) (sym (reached_joined y below) ∙ new.1)
-              (rw at.3 at (sorted.others at.0 q at.2))))
-              (below_or_not at.0 end);
+              (cc (sym (reached_joined y below) ∙ new.1, rw at.3 at (sorted.others at.0 q at.2))))
+              (cases_lt at.0 end);
         }
 
     turned_lit : Sided first' step' to' stamps' end
@@ -251,11 +251,9 @@ module _
               ⊎_elim
               (λ (q : at.0 < end).
               absurd
-              (true_or_false (joined_to lamp (part from head tail) (wire_of first' step' y))
-              (rw at.3 at (sorted.named at.0 at.1 q))
-              (sym (reached_joined y below) ∙ old.1)))
+              (cc (rw at.3 at (sorted.named at.0 at.1 q), sym (reached_joined y below) ∙ old.1)))
               (λ (q : end ≤ at.0). (at.0, q, omega (arith, at.2), at.3))
-              (below_or_not at.0 end);
+              (cases_lt at.0 end);
         }
 
     turned_others : Sided first step from stamps' tail
@@ -286,7 +284,7 @@ module _
         ⊎_elim
         (λ (a : among (part to' dark end) v ≡ true). let at = among_is v a in absurd (omega (arith, at.1, at.2)))
         (λ (a : among (part to' dark end) v ≡ false). old_stamp v a)
-        (by_test (among (part to' dark end) v))
+        (cases_Bool (among (part to' dark end) v))
 
     pub turned_some : dark < end → (v : ℕ) × (get_or stamps v 0 ≡ 0) × (get_or stamps' v 0 ≡ t + 2)
     turned_some h =

@@ -16,7 +16,8 @@ use cells::checks::{is_setting, is_sound};
 use common::{Fault, Refusal};
 
 // The rounds of m rows and n columns, without light's checks: each wire's first round, and zeros past them. The answer is the count of
-// rounds, and none where no number of rounds below that of the wires is at rest.
+// rounds, and none where no number of rounds below that of the wires is at rest. The cells and the setting are two parameters, since a setting is no
+// part of a crossbar: the host lends them apart.
 fn light_wires(cells: &[u8], setting: &[u8], m: usize, n: usize, firsts: &mut [u16]) -> Option<u16>
     requires { LampReady cells.now setting.now m n firsts.old }
     ensures { Settled m n (joins cells.now n setting.now) (length firsts.old) firsts.new result }
@@ -27,7 +28,8 @@ fn light_wires(cells: &[u8], setting: &[u8], m: usize, n: usize, firsts: &mut [u
     rounds(Lamp { cells, on: &on }, m, n, firsts)
 }
 
-// A refusal, line 0, and zeros in the whole buffer.
+// A refusal, line 0, and zeros in the whole buffer. The calls that fill bytes do the same by `fill` where they refuse: one function for numbers of both
+// widths could promise no zeros, only copies of a default.
 fn refuse(fault: Fault, out: &mut [u16]) -> Result<u16, Refusal>
     ensures { (result ≡ Err (record { fault = fault; line = 0 })) × (out.new ≡ zeros (length out.old)) }
 {

@@ -12,7 +12,7 @@ use common::{MAX_COLUMNS, MAX_ROWS};
 // Where a round begins. Its wires, lit in the round before, are those of their list from `head` up to `tail`; the dark wires of the other
 // list begin at `dark`. They are places and not slices: a round exchanges wires of the list that the next round begins in.
 #[derive(Clone, Copy)]
-struct Front {
+struct RoundStart {
     head: usize,
     tail: usize,
     dark: usize,
@@ -35,7 +35,7 @@ fn round(
     columns: &mut [Key],
     stamps: &mut [u16],
     t: u16,
-    front: Front,
+    front: RoundStart,
 ) -> usize
     requires fits { Fits lamp (length rows.old) (length columns.old) stamps.old × (t < length rows.old + length columns.old) }
     requires standing { Standing rows.old columns.old stamps.old t front.head front.tail front.dark }
@@ -49,7 +49,7 @@ fn round(
         (ltb front.dark result) }
     ensures ready { Standing rows.new columns.new stamps.new (t + 1) front.dark result front.tail }
 {
-    let Front { head, tail, dark } = front;
+    let RoundStart { head, tail, dark } = front;
     let reached = if t % 2 == 0 {
         cross(lamp, &rows[head..tail], &mut columns[dark..], stamps, t + 2)
     } else {
@@ -59,7 +59,8 @@ fn round(
 }
 
 // The rounds of m rows and n columns, until one adds no wire. The answer is the count of rounds, and none where a further round would still
-// add a wire after one less than there are wires. Document 01 has this loop yield its count by `break`, so it is no `for`.
+// add a wire after one less than there are wires. Document 01 has this loop yield its count by `break`, so it is no `for`. The lists are parts
+// of arrays, since nothing may allocate; the count of the wires has no `From` to 16 bits, and fits them.
 pub fn rounds(lamp: Lamp, m: usize, n: usize, stamps: &mut [u16]) -> Option<u16>
     requires fits { Fits lamp m n stamps.old }
     requires stamps_value { stamps.old ≡ stamps_after (length stamps.old) m n (passing lamp n) 0 }
@@ -74,7 +75,7 @@ pub fn rounds(lamp: Lamp, m: usize, n: usize, stamps: &mut [u16]) -> Option<u16>
     line_up(columns, m, 1);
     let wires = (m + n) as u16;
     let mut t = 0;
-    let mut front = Front {
+    let mut front = RoundStart {
         head: 0,
         tail: 1,
         dark: 0,
@@ -88,7 +89,7 @@ pub fn rounds(lamp: Lamp, m: usize, n: usize, stamps: &mut [u16]) -> Option<u16>
             break Some(t);
         }
         t += 1;
-        front = Front {
+        front = RoundStart {
             head: front.dark,
             tail: end,
             dark: front.tail,

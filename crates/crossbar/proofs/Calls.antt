@@ -4,9 +4,9 @@ use mathlib.Core.Path.{◌≡◌, refl, sym, ap, ◌∙◌}
 use mathlib.Core.List.{List, []}
 use native.Mathlib.Omega.{arith}
 use lib.ListN.{length}
-use Rattle.std.specs.Prelude.{Result, Ok, Err}
+use Rattle.std.specs.Prelude.{Result, Ok, Err, IfOk, MatchResult}
 use Rattle.common.specs.declared.Refusal.{Refusal}
-use Rattle.common.specs.Fault.{number_of_fault, handed}
+use Rattle.common.specs.Fault.{faults, fault_of, handed}
 use Rattle.common.specs.Lists.{zeros, padded}
 use Rattle.common.specs.Outcome.{Outcome, done, refused, buffer_of, Answered}
 use Rattle.cells.specs.declared.Crossbar.{Crossbar}
@@ -16,37 +16,44 @@ use Rattle.conduction.proofs.Light.{light_answers}
 use Rattle.crossbar.specs.Bytes.{record_from, pairs}
 use Rattle.crossbar.specs.declared.bytes.Record.{Record}
 use Rattle.crossbar.specs.Records.{RecordIs}
-use Rattle.crossbar.specs.Host.{packed, packed_from, of_record}
+use Rattle.crossbar.specs.Host.{packed, packed_from, Unanswered, of_record}
 use Rattle.crossbar.proofs.Records.{not_held, was_held, none_held, one_held}
-use Rattle.crossbar.proofs.Numbers.{grounded, packed_is}
+use Rattle.crossbar.proofs.Numbers.{packed_is}
 use Rattle.crossbar.proofs.Lent.{lent_numbers, lent_most, light_lent}
 use Rattle.crossbar.proofs.Pairs.{pairs-padded, no_numbers}
 
--- the answer of a call that reads a record: where the slice holds none, and where it holds one and the call beneath answers
-module _ {A : Type 0} (value : A → ℕ) (bytes : A → List ℕ) (s : List ℕ) (rest : Crossbar → Outcome A) (room r : ℕ) (after : List ℕ) where
-  pub none_answered :
-      (e : Refusal)
-      → RecordIs s (Err e)
-      → r ≡ packed_from (Err e)
-      → after ≡ zeros room
-      → Answered (of_record s (rest (record_from s))) (packed value) bytes room r after
-  unfolding packed packed_from number_of_fault buffer_of
-  none_answered e h a f =
+-- a call that reads a record, and what it hands over: where the slice holds none, and where it holds one and the call beneath answers
+module _ {A : Type 0} (value : A → ℕ) (bytes : A → List ℕ) (s : List ℕ) (rest : Crossbar → Outcome A) (room : ℕ) where
+  pub none_filled : (e : Refusal) (after : List ℕ) → RecordIs s (Err e) → Unanswered (of_record s (rest (record_from s))) value bytes room (Err e) after
+  unfolding handed fault_of faults
+  none_filled e after h =
       let no = not_held s e h in
-      rw (none_held s (rest (record_from s)) no.0) (record { answer = a ∙ rw no.1; buffer = f })
+      rw (none_held s (rest (record_from s)) no.0) (record { answer = ap Err no.1; buffer = tt })
 
-  pub one_answered :
-      {P : A → Type 0} {b : ℕ} (x : Record) (v w : Result ℕ Refusal)
-      → EndsWithin P b (rest x.0)
+  pub one_filled :
+      (x : Record) (r : Result ℕ Refusal) (after : List ℕ)
       → RecordIs s (Ok x)
-      → Answered (rest x.0) (handed value) bytes room v after
-      → w ≡ v
-      → r ≡ packed_from w
-      → Answered (of_record s (rest (record_from s))) (packed value) bytes room r after
-  one_answered x v w ends h a e f =
+      → r ≡ handed value (rest x.0)
+      → IfOk r (λ n. after ≡ buffer_of room bytes (rest x.0))
+      → Unanswered (of_record s (rest (record_from s))) value bytes room r after
+  one_filled x r after h a f =
       let found = was_held s x h in
-      rw (one_held s (rest (record_from s)) found.0, ← found.1)
-      (record { answer = f ∙ packed_is value (rest x.0) w (grounded (rest x.0) ends) (e ∙ a.answer); buffer = a.buffer })
+      rw (one_held s (rest (record_from s)) found.0, ← found.1) (record { answer = a; buffer = f })
+
+-- its answer, and its buffer, which is cleared after a refusal
+pub answered :
+    {A : Type 0} {P : A → Type 0} {b : ℕ} (value : A → ℕ) (bytes : A → List ℕ) (room : ℕ) (o : Outcome A) (v : Result ℕ Refusal) (r : ℕ) (filled after : List ℕ)
+    → EndsWithin P b o
+    → Unanswered o value bytes room v filled
+    → length filled ≡ room
+    → r ≡ packed_from v
+    → MatchResult v (λ n. after ≡ filled) (λ e. after ≡ zeros (length filled))
+    → Answered o (packed value) bytes room r after
+unfolding handed buffer_of
+answered value bytes room (done a) v r filled after ends h long f cleared =
+    record { answer = f ∙ packed_is value (done a) v ends h.answer; buffer = (rw h.answer at cleared) ∙ (rw h.answer at h.buffer) }
+answered value bytes room (refused k l) v r filled after ends h long f cleared =
+    record { answer = f ∙ packed_is value (refused k l) v ends h.answer; buffer = (rw h.answer at cleared) ∙ ap zeros long }
 
 -- the bytes of the numbers that light left
 pairs_left :

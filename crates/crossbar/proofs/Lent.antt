@@ -6,9 +6,9 @@ use mathlib.Core.Bool.{true, false}
 use mathlib.Core.List.{List}
 use native.Mathlib.Omega.{arith}
 use borrow.Author.Tests.{le-ltb}
+use Rattle.std.proofs.lemmas.Bool.{cases_Bool, cases_lt}
 use Rattle.common.specs.Limits.{max_rows, max_columns}
 use Rattle.common.specs.Outcome.{lowest, unless}
-use Rattle.common.proofs.Lists.{by_test, below_or_not}
 use Rattle.cells.specs.declared.Crossbar.{Crossbar}
 use Rattle.cells.specs.Record.{sound}
 use Rattle.cells.proofs.Sizes.{sound_facts}
@@ -35,6 +35,6 @@ light_lent x cells setting n =
     (λ (h : w ≤ n / 2).
     let all : min (n / 2) (min w (max_rows + max_columns)) ≡ w = omega (arith, sizes.rows_most, sizes.columns_most) in
     ap (light x cells setting) all ∙ rw (le-ltb w w (omega arith), le-ltb (n / 2) w h))
-    (below_or_not (n / 2) w))
+    (cases_lt (n / 2) w))
     (λ (s : sound x cells ≡ false). rw s)
-    (by_test (sound x cells))
+    (cases_Bool (sound x cells))

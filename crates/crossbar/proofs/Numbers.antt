@@ -10,7 +10,7 @@ use Rattle.common.specs.Fault.{number_of_fault, handed}
 use Rattle.common.specs.Outcome.{Outcome, done, refused, most_number}
 use Rattle.common.proofs.Faults.{number_faulted}
 use Rattle.common.proofs.Within.{EndsWithin, ends_refused}
-use Rattle.crossbar.specs.Host.{packed, packed_from, Grounded}
+use Rattle.crossbar.specs.Host.{packed, packed_from}
 
 -- no number of a ground is above 15
 pub number_most : (f : Fault) → number_of_fault f ≤ 15
@@ -31,18 +31,12 @@ number_most fault.WrongSetting = omega arith
 number_most fault.NoRoom = omega arith
 number_most fault.Unsettled = omega arith
 
--- a call refuses for a ground
-pub grounded : {A : Type 0} {P : A → Type 0} {b : ℕ} (o : Outcome A) → EndsWithin P b o → Grounded o
-unfolding Grounded most_number
-grounded (done a) p = tt
-grounded (refused k n) (ends_refused low high l) = number_faulted k low high
-
--- so its answer is that of the outcome
+-- a call refuses for a ground, so its answer is that of the outcome
 pub packed_is :
-    {A : Type 0} (value : A → ℕ) (o : Outcome A) (r : Result ℕ Refusal)
-    → Grounded o
+    {A : Type 0} {P : A → Type 0} {b : ℕ} (value : A → ℕ) (o : Outcome A) (r : Result ℕ Refusal)
+    → EndsWithin P b o
     → r ≡ handed value o
     → packed_from r ≡ packed value o
-unfolding packed packed_from handed Grounded
+unfolding packed packed_from handed most_number
 packed_is value (done a) r p e = rw e
-packed_is value (refused k n) r p e = rw (e, p)
+packed_is value (refused k n) r (ends_refused low high l) e = rw (e, number_faulted k low high)

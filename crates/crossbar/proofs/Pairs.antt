@@ -6,21 +6,17 @@ use mathlib.Core.List.{List, [], ◌∷◌, ◌++◌}
 use native.Mathlib.Omega.{arith}
 use native.Mathlib.Numerals.{add-one}
 use lib.Dec.{ltb}
-use lib.ListN.{length, get_or, take, set, length-append}
-use lib.Seq.{ext_get_or, take-suc, set-append_seam, append_snoc, length-take-le}
+use lib.ListN.{length, get_or, take, drop, set, length-append}
+use lib.Seq.{ext_get_or, take-suc, length-take-le}
 use borrow.Author.Tests.{ltb-true}
+use Rattle.std.specs.Int.{w16, from_le_bytes}
+use Rattle.std.specs.Simd.{first_chunks}
+use Rattle.std.proofs.lemmas.List.{get_or-take, get_or-drop}
 use Rattle.common.specs.Limits.{max_outputs}
 use Rattle.common.specs.Lists.{zeros, padded, tab, all_of}
-use Rattle.common.proofs.Lists.{length-tab, get_or-tab, all_of_at, length-padded, get_or-padded_any, get_or_before_zeros}
+use Rattle.common.proofs.Lists.{all_of_at, length-padded, get_or-padded_any, get_or_before_zeros, padded-set, tab_is}
 use Rattle.cells.specs.declared.Crossbar.{Crossbar}
 use Rattle.crossbar.specs.Bytes.{record_length, numbers_of, pairs, record_bytes, number_at, record_from}
-
--- an entry past the padded list's own
-pad_more : (n : ℕ) (s : List ℕ) (a i : ℕ) → i ≡ length s → i < n → set (padded n s) i a ≡ padded n (s ++ (a ∷ []))
-unfolding padded
-pad_more n s a i e h =
-    let left : n - length s ≡ suc (n - length (s ++ (a ∷ []))) = simp length-append (omega arith) in
-    rw (e, left) (set-append_seam s 0 (zeros (n - length (s ++ (a ∷ [])))) a ∙ sym (append_snoc s a (zeros (n - length (s ++ (a ∷ []))))))
 
 pub length_pairs : (ns : List ℕ) → length (pairs ns) ≡ 2 * length ns
 unfolding pairs
@@ -46,10 +42,32 @@ number_next n i low high ns s h room el eh f =
     let ms = take i ns in
     let next : take (i + 1) ns ≡ ms ++ (a ∷ []) = rw add-one (take-suc ns i 0 h) in
     let front : length ms ≡ i = length-take-le i ns (omega arith) in
-    let long : 2 * i ≡ length (pairs ms) = rw length_pairs (omega arith) in
-    let longer : 2 * i + 1 ≡ length (pairs ms ++ (a % 256 ∷ [])) = simp (length-append, length_pairs) (omega arith) in
-    rw (next, f, el, eh, pad_more n (pairs ms) (a % 256) (2 * i) long (omega arith), pairs_more)
-    (pad_more n (pairs ms ++ (a % 256 ∷ [])) (a / 256) (2 * i + 1) longer (omega arith))
+    let long : length (pairs ms) ≡ 2 * i = rw length_pairs (omega arith) in
+    let longer : length (pairs ms ++ (a % 256 ∷ [])) ≡ 2 * i + 1 = simp (length-append, length_pairs) (omega arith) in
+    rw (next, f, el, eh, padded-set n (pairs ms) (2 * i) (a % 256) long (omega arith), pairs_more)
+    (padded-set n (pairs ms ++ (a % 256 ∷ [])) (2 * i + 1) (a / 256) longer (omega arith))
+
+-- a number from the pair of its bytes, of bytes in pairs, and of those that bytes begin with
+pair_at : (k : ℕ) (s : List ℕ) (i : ℕ) → i < k → from_le_bytes w16 (get_or (first_chunks 2 k s) i []) ≡ number_at s i
+unfolding number_at
+pair_at zero s i h = absurd (omega arith)
+pair_at (suc k) s zero h = rw (get_or-take 2 s 0 0 (omega arith), get_or-take 2 s 1 0 (omega arith)) (omega arith)
+pair_at (suc k) s (suc i) h =
+    let low : 2 + 2 * i ≡ 2 * suc i = omega arith in
+    let high : 2 + (2 * i + 1) ≡ 2 * suc i + 1 = omega arith in
+    pair_at k (drop 2 s) i (omega arith) ∙ rw (get_or-drop 2 s (2 * i) 0, get_or-drop 2 s (2 * i + 1) 0, low, high) refl
+
+pub number_from :
+    (s : List ℕ) (n : ℕ) (front : List ℕ) (ps : List (List ℕ)) (i : ℕ)
+    → n ≤ length s
+    → front ≡ take n s
+    → ps ≡ first_chunks 2 (length front / 2) front
+    → 2 * i + 1 < n
+    → from_le_bytes w16 (get_or ps i []) ≡ number_at s i
+unfolding number_at
+number_from s n front ps i h e f below =
+    let long : length front ≡ n = rw e (length-take-le n s h) in
+    rw (f, pair_at (length front / 2) front i (omega arith)) (rw (e, get_or-take n s (2 * i) 0 (omega arith), get_or-take n s (2 * i + 1) 0 below) refl)
 
 -- a number from its two bytes
 number_in : (ns : List ℕ) (i : ℕ) → number_at (pairs ns) i ≡ get_or ns i 0
@@ -60,10 +78,6 @@ number_in (n ∷ ns) (suc i) =
     let low : 2 * suc i ≡ suc (suc (2 * i)) = omega arith in
     let high : 2 * suc i + 1 ≡ suc (suc (2 * i + 1)) = omega arith in
     rw (high, low) (number_in ns i)
-
--- a table of a list's entries is that list
-tab_is : (f : ℕ → ℕ) (l : List ℕ) (n : ℕ) → length l ≡ n → ((i : ℕ) → f i ≡ get_or l i 0) → tab n f ≡ l
-tab_is f l n e h = ext_get_or 0 (tab n f) l (length-tab n f ∙ sym e) (λ i k. get_or-tab n f i 0 (rw length-tab at k) ∙ h i)
 
 -- what is written as a record is read as that record
 pub record_back : (x : Crossbar) → length x.outs ≡ max_outputs → record_from (record_bytes x) ≡ x

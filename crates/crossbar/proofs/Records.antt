@@ -12,9 +12,10 @@ use borrow.Author.Tests.{leb-true, le-leb, lt-leb}
 use Rattle.common.specs.Limits.{max_outputs}
 use Rattle.common.specs.Lists.{all_of, padded}
 use Rattle.common.specs.Outcome.{Outcome, done, refused, lowest, unless}
-use Rattle.common.proofs.Lists.{by_test, and_left, all_of_zeros, length-padded, get_or-padded_any}
+use Rattle.common.proofs.Lists.{and_left, all_of_zeros, length-padded, get_or-padded_any}
 use Rattle.cells.specs.declared.Crossbar.{Crossbar}
 use Rattle.std.specs.Prelude.{Ok, Err}
+use Rattle.std.proofs.lemmas.Bool.{cases_Bool}
 use Rattle.crossbar.specs.Bytes.{record_length, numbers_of, record_bytes, holds_record, number_at, record_from}
 use Rattle.crossbar.specs.Host.{of_record}
 use Rattle.crossbar.specs.Records.{RecordIs}
@@ -76,7 +77,7 @@ module _ (s : List ℕ) where
       ⊎_elim
       (λ (t : holds_record s ≡ true). let d = rw (one_held s (done (record_from s)) t) at e in (t, ap (λ (r : Record). r.0) cc))
       (λ (f : holds_record s ≡ false). let d = rw (none_held s (done (record_from s)) f) at e in absurd cc)
-      (by_test (holds_record s))
+      (cases_Bool (holds_record s))
 
   pub not_held : (e : Refusal) → RecordIs s (Err e) → (holds_record s ≡ false) × (e ≡ record { fault = fault.Misplaced; line = 0 })
   unfolding handed fault_of faults
@@ -84,7 +85,7 @@ module _ (s : List ℕ) where
       ⊎_elim
       (λ (t : holds_record s ≡ true). let d = rw (one_held s (done (record_from s)) t) at h in absurd cc)
       (λ (f : holds_record s ≡ false). let d = rw (none_held s (done (record_from s)) f) at h in (f, cc))
-      (by_test (holds_record s))
+      (cases_Bool (holds_record s))
 
 pub ruleset none = (none_short, none_past)
 

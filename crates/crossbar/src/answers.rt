@@ -1,10 +1,9 @@
 // One number for an outcome: the refusal's number in the highest byte and its line, or the call's value.
-ghost use Rattle.std.specs.Prelude.{◌≡◌, length, Err};
-ghost use Rattle.common.specs.Fault.{handed};
-ghost use Rattle.common.specs.Lists.{zeros};
-ghost use Rattle.common.specs.Outcome.{Outcome, buffer_of};
-ghost use Rattle.cells.specs.Record.{Whole};
-ghost use Rattle.crossbar.specs.Host.{packed_from, for_record, Delivered, Grounded};
+ghost use Rattle.std.specs.Prelude.{◌≡◌, ◌≤◌, ◌<◌, ◌*◌, length, Err, IfOk, IfErr, MatchResult};
+ghost use Rattle.common.specs.declared.Fault.TheVariants as fault;
+ghost use Rattle.common.specs.Lists.{zeros, padded};
+ghost use Rattle.crossbar.specs.Bytes.{record_length, record_bytes};
+ghost use Rattle.crossbar.specs.Host.{packed_from};
 
 use crate::bytes::{RECORD_BYTES, write_record};
 use cells::Crossbar;
@@ -24,24 +23,27 @@ pub fn pack(answer: Result<u64, Refusal>) -> u64
     }
 }
 
-// A refusal: its answer, and zeros in the whole buffer.
-pub fn refuse(out: &mut [u8], refusal: Refusal) -> u64
-    ensures answer { result ≡ packed_from (Err refusal) }
-    ensures buffer { out.new ≡ zeros (length out.old) }
+// The answer of a call that fills a buffer: after a refusal the whole buffer holds zeros, by a `fill` of its own (conduction/src/lighting.rt says why).
+pub fn answer(out: &mut [u8], filled: Result<u64, Refusal>) -> u64
+    ensures answer { result ≡ packed_from filled }
+    ensures buffer { MatchResult filled (λ v. out.new ≡ out.old) (λ e. out.new ≡ zeros (length out.old)) }
 {
-    out.fill(0);
-    pack(Err(refusal))
+    if filled.is_err() {
+        out.fill(0);
+    }
+    pack(filled)
 }
 
 // A crossbar for two buffers, of which the cells' buffer holds the cells: ground 14 also where the record's buffer is shorter than a
 // record.
+#[tactic(auto, unfolding(crate::specs::Bytes::record_length, common::specs::Limits::max_outputs))]
 pub fn deliver(made: Result<Crossbar, Refusal>, head: &mut [u8], cells: &mut [u8]) -> u64
-    ensures refused { (e : Refusal) → made ≡ Err e → (result ≡ packed_from (Err e)) × (head.new ≡ zeros (length head.old)) × (cells.new ≡ cells.old) }
-    ensures delivered { (o : Outcome Whole)
-        → Grounded o
-        → made ≡ handed (λ w. w.head) o
-        → cells.old ≡ buffer_of (length cells.old) (λ w. w.codes) o
-        → Delivered (for_record (length head.old) o) (length head.old) (length cells.old) result head.new cells.new }
+    ensures refused { IfErr made (λ e. (result ≡ packed_from (Err e)) × (head.new ≡ zeros (length head.old)) × (cells.new ≡ cells.old)) }
+    ensures short { length head.old < record_length → IfOk made (λ x.
+        (result ≡ packed_from (Err (record { fault = fault.NoRoom; line = 0 })))
+        × (head.new ≡ zeros (length head.old)) × (cells.new ≡ zeros (length cells.old))) }
+    ensures delivered { record_length ≤ length head.old → IfOk made (λ x.
+        (result ≡ x.rows * x.columns) × (head.new ≡ padded (length head.old) (record_bytes x)) × (cells.new ≡ cells.old)) }
 {
     match made {
         Ok(x) if RECORD_BYTES <= head.len() => {
@@ -50,8 +52,8 @@ pub fn deliver(made: Result<Crossbar, Refusal>, head: &mut [u8], cells: &mut [u8
         }
         Ok(_) => {
             cells.fill(0);
-            refuse(head, Fault::NoRoom.at(0))
+            answer(head, Err(Fault::NoRoom.at(0)))
         }
-        Err(refusal) => refuse(head, refusal),
+        Err(refusal) => answer(head, Err(refusal)),
     }
 }

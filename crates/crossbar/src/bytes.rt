@@ -1,9 +1,9 @@
 // Numbers as bytes, two bytes a number, low byte first: the crossbar record, which is R, C, V, K and the 32 output rows, and the first
 // rounds.
-ghost use Rattle.std.specs.Prelude.{◌≡◌, ◌+◌, ◌*◌, ◌≤◌, ◌<◌, length};
+ghost use Rattle.std.specs.Prelude.{◌≡◌, ◌*◌, ◌≤◌, length};
 ghost use Rattle.common.specs.Lists.{padded};
 ghost use Rattle.crossbar.specs.Records.{RecordIs};
-ghost use Rattle.crossbar.specs.Bytes.{record_length, numbers_of, pairs, record_bytes, number_at};
+ghost use Rattle.crossbar.specs.Bytes.{record_length, numbers_of, pairs, record_bytes};
 
 use cells::Crossbar;
 use cells::checks::is_zero;
@@ -14,15 +14,6 @@ use std::array;
 const RECORD_NUMBERS: usize = 4 + MAX_OUTPUTS;
 
 pub const RECORD_BYTES: usize = 2 * RECORD_NUMBERS;
-
-// The number at place i of bytes.
-#[tactic(auto, unfolding(crate::specs::Bytes::number_at))]
-fn number_at(s: &[u8], i: usize) -> u16
-    requires { 2 * i + 1 < length s.now }
-    ensures { result ≡ number_at s.now i }
-{
-    u16::from_le_bytes([s[2 * i], s[2 * i + 1]])
-}
 
 // A crossbar's record as bytes hold it.
 #[derive(Clone, Copy)]
@@ -37,13 +28,16 @@ impl TryFrom<&[u8]> for Record {
     #[tactic(auto, using(crate::proofs::Records::none), unfolding(crate::specs::Bytes::record_length, common::specs::Limits::max_outputs))]
     fn try_from(s: &[u8]) -> Result<Record, Refusal> {
         match s.split_at_checked(RECORD_BYTES) {
-            Some((_, past)) if is_zero(past) => Ok(Record(Crossbar {
-                rows: number_at(s, 0),
-                columns: number_at(s, 1),
-                switches: number_at(s, 2),
-                outputs: number_at(s, 3),
-                outs: array::from_fn(|j| number_at(s, 4 + j)),
-            })),
+            Some((record, past)) if is_zero(past) => {
+                let (numbers, _) = record.as_chunks::<2>();
+                Ok(Record(Crossbar {
+                    rows: u16::from_le_bytes(numbers[0]),
+                    columns: u16::from_le_bytes(numbers[1]),
+                    switches: u16::from_le_bytes(numbers[2]),
+                    outputs: u16::from_le_bytes(numbers[3]),
+                    outs: array::from_fn(|j| u16::from_le_bytes(numbers[4 + j])),
+                }))
+            }
             _ => Err(Fault::Misplaced.at(0)),
         }
     }
@@ -62,7 +56,7 @@ impl From<Record> for [u16; RECORD_NUMBERS] {
     }
 }
 
-// A record's bytes into a buffer, and zeros past them.
+// A record's bytes into a buffer, and zeros past them. It is no `From`: a buffer may be longer than a record, and what is past it is cleared.
 #[tactic(auto, unfolding(crate::specs::Bytes::record_length, crate::specs::Bytes::record_bytes, common::specs::Limits::max_outputs))]
 pub fn write_record(out: &mut [u8], x: Crossbar)
     requires { record_length ≤ length out.old }

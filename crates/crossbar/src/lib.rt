@@ -4,12 +4,9 @@
 pub mod answers; // answers.rt: one number for an outcome
 pub mod bytes; // bytes.rt: numbers as bytes: the crossbar record and the first rounds
 
-ghost use Rattle.std.specs.Prelude.{◌/◌, length};
-ghost use Rattle.common.specs.Outcome.{Answered};
-ghost use Rattle.common.specs.Fault.{handed};
-ghost use Rattle.conduction.specs.Light.{light};
+ghost use Rattle.std.specs.Prelude.{length};
 ghost use Rattle.crossbar.specs.Bytes.{pairs};
-ghost use Rattle.crossbar.specs.Host.{MapCall, WalkCall, LightCall, PrintCall, LoadCall};
+ghost use Rattle.crossbar.specs.Host.{Unanswered, host_light, host_print, MapCall, WalkCall, LightCall, PrintCall, LoadCall};
 
 use bytes::Record;
 use cells::Crossbar;
@@ -31,44 +28,43 @@ pub fn crossbar_walk(text: &[u8], setting: &[u8], output: u32) -> u64
 }
 
 // Light into a buffer of bytes, two for each number. The call beneath is lent as many numbers as the buffer holds, and not more than the
-// record has wires or the largest crossbar has.
-fn light_bytes(x: Crossbar, cells: &[u8], setting: &[u8], firsts: &mut [u8]) -> Result<u16, Refusal>
-    ensures { Answered (light x cells.now setting.now (length firsts.old / 2))
-        (handed (λ a. a.count))
-        (λ a. pairs a.firsts)
-        (length firsts.old)
-        result
-        firsts.new }
+// record has wires or the largest crossbar has. After a refusal the buffer holds anything.
+fn light_bytes(head: &[u8], cells: &[u8], setting: &[u8], firsts: &mut [u8]) -> Result<u64, Refusal>
+    ensures { Unanswered (host_light head.now cells.now setting.now (length firsts.old)) (λ a. a.count) (λ a. pairs a.firsts)
+        (length firsts.old) result firsts.new }
 {
+    let Record(x) = Record::try_from(head)?;
     let mut numbers = [0u16; MAX_ROWS + MAX_COLUMNS];
     let wires = (usize::from(x.rows) + usize::from(x.columns)).min(MAX_ROWS + MAX_COLUMNS);
     let room = wires.min(firsts.len() / 2);
-    let rounds = conduction::lighting::light(x, cells, setting, &mut numbers[..room]);
+    let rounds = conduction::lighting::light(x, cells, setting, &mut numbers[..room])?;
     bytes::write_numbers(firsts, &numbers[..room]);
-    rounds
+    Ok(u64::from(rounds))
 }
 
 // Light: record, cells and setting in; the first round of every wire and the count of rounds out.
 pub fn crossbar_light(head: &[u8], cells: &[u8], setting: &[u8], firsts: &mut [u8]) -> u64
     ensures { LightCall head.now cells.now setting.now firsts.old result firsts.new }
 {
-    match Record::try_from(head) {
-        Ok(Record(x)) => answers::pack(light_bytes(x, cells, setting, firsts).map(u64::from)),
-        Err(refusal) => answers::refuse(firsts, refusal),
-    }
+    let rounds = light_bytes(head, cells, setting, firsts);
+    answers::answer(firsts, rounds)
 }
 
-// Print: record and cells in; listing text and its length out. The length is cast, since `u64` has no `From<usize>`.
+// Print on a record's bytes. After a refusal the buffer holds anything. The length is cast, since `u64` has no `From<usize>`.
+fn print_bytes(head: &[u8], cells: &[u8], text: &mut [u8]) -> Result<u64, Refusal>
+    ensures { Unanswered (host_print head.now cells.now (length text.old)) length (λ s. s) (length text.old) result text.new }
+{
+    let Record(x) = Record::try_from(head)?;
+    let length = listings::printing::print(x, cells, text)?;
+    Ok(length as u64)
+}
+
+// Print: record and cells in; listing text and its length out.
 pub fn crossbar_print(head: &[u8], cells: &[u8], text: &mut [u8]) -> u64
     ensures { PrintCall head.now cells.now text.old result text.new }
 {
-    match Record::try_from(head) {
-        Ok(Record(x)) => {
-            let length = listings::printing::print(x, cells, text);
-            answers::pack(length.map(|length| length as u64))
-        }
-        Err(refusal) => answers::refuse(text, refusal),
-    }
+    let length = print_bytes(head, cells, text);
+    answers::answer(text, length)
 }
 
 // Load: listing text in; record and cells out.

@@ -11,14 +11,15 @@ use lib.ListN.{length, get_or, set, length-set, length-replicate}
 use lib.Seq.{get_or-set_same, get_or-set_other}
 use lib.Dec.{eqb, leb}
 use borrow.Author.Tests.{eq-eqb, le-leb}
+use Rattle.std.proofs.lemmas.Bool.{cases_lt, and_from}
 use Rattle.common.specs.Lists.{bit, zeros, all_of}
-use Rattle.common.proofs.Lists.{eqb_bit, and_left, and_right, and_both, below_or_not, all_of_set, all_of_zeros, bit_most}
+use Rattle.common.proofs.Lists.{eqb_bit, and_left, and_right, all_of_set, all_of_zeros, bit_most}
 use Rattle.cells.specs.Setting.{is_setting}
 use Rattle.diagram.specs.Diagram.{Diagram, id_count, switch_at, low_at, high_at}
 use Rattle.diagram.specs.Walk.{step, walk_end}
 use Rattle.diagram.specs.Facts.{Facts}
 use Rattle.diagram.proofs.Walk.{by_id, switch_terminal, walk-terminal}
-use Rattle.diagram.proofs.Walk.{step_below, step_cases, step_same, walk_zero, walk_one, walk_step, walk_low, walk_high}
+use Rattle.diagram.proofs.Walk.{facts_fall, step_falls, step_cases, step_same, walk_zero, walk_one, walk_step, walk_low, walk_high}
 use Rattle.cells.proofs.Sizes.{setting_length}
 
 -- a setting with one switch fixed is a setting
@@ -26,7 +27,7 @@ pub setting_set : (v : ℕ) (s : List ℕ) (x b : ℕ) → b ≤ 1 → is_settin
 unfolding is_setting
 setting_set v s x b least h =
     rw (length-set s x b)
-    (and_both
+    (and_from
     (eqb (length s) v)
     (all_of (λ c. leb c 1) (set s x b))
     (and_left (eqb (length s) v) (all_of (λ c. leb c 1) s) h)
@@ -42,7 +43,7 @@ setting_set v s x b least h =
 pub setting_zeros : (v : ℕ) → is_setting v (zeros v) ≡ true
 unfolding is_setting
 setting_zeros v =
-    and_both
+    and_from
     (eqb (length (zeros v)) v)
     (all_of (λ b. leb b 1) (zeros v))
     (eq-eqb (length (zeros v)) v (length-replicate v 0))
@@ -79,7 +80,7 @@ module _ (d : Diagram) (facts : Facts d) where
           (walk_one d s ∙ sym (walk_one d t))
           (λ (node : 2 ≤ i).
           let f = facts.node i node within in
-          let falls = step_below d s facts i node within in
+          let falls = step_falls d s (facts_fall d facts) i node within in
           let on = step_cases (λ k. x ≤ switch_at d k) d s i (omega (arith, f.low_later)) (omega (arith, f.high_later)) in
           sym (walk_step d s facts i within)
           ∙ below n (step d s i) (omega arith) (omega arith) on
@@ -228,8 +229,8 @@ module _ (d : Diagram) (facts : Facts d) where
       absurd (apart n k i ind (omega arith) node' within' within (back i k alike) later))
       (λ (most : switch_at d i ≤ switch_at d k).
       together n i k ind near node within within' alike node' (omega arith))
-      (below_or_not (switch_at d k) (switch_at d i)))
-      (below_or_not (switch_at d i) (switch_at d k))
+      (cases_lt (switch_at d k) (switch_at d i)))
+      (cases_lt (switch_at d i) (switch_at d k))
 
   canonical_below : (n : ℕ) → CanonicalBelow n
   canonical_below zero i k h within within' alike = absurd (omega arith)
@@ -240,13 +241,13 @@ module _ (d : Diagram) (facts : Facts d) where
       ⊎_elim
       (λ (end' : k < 2). terminals i k end end' alike)
       (λ (node' : 2 ≤ k). absurd (node_terminal n k i ind (omega arith) node' within' end (back i k alike)))
-      (below_or_not k 2))
+      (cases_lt k 2))
       (λ (node : 2 ≤ i).
       ⊎_elim
       (λ (end' : k < 2). absurd (node_terminal n i k ind (omega arith) node within end' alike))
       (λ (node' : 2 ≤ k). nodes n i k ind (omega arith) node within node' within' alike)
-      (below_or_not k 2))
-      (below_or_not i 2)
+      (cases_lt k 2))
+      (cases_lt i 2)
 
   -- a diagram has one id for each walk
   pub canonical :

@@ -32,39 +32,19 @@ pub tested_none : tested (lowest []) ≡ Ok tt
 unfolding lowest tested
 tested_none = refl
 
-pub tested_2 : tested 2 ≡ Err fault.OutOfRange
+pub tested_numbers :
+    (tested 2 ≡ Err fault.OutOfRange)
+    × (tested 3 ≡ Err fault.OutOfTurn)
+    × (tested 4 ≡ Err fault.NoSwitch)
+    × (tested 5 ≡ Err fault.NoId)
+    × (tested 6 ≡ Err fault.Unordered)
+    × (tested 7 ≡ Err fault.SameChildren)
+    × (tested 8 ≡ Err fault.Doubled)
+    × (tested 9 ≡ Err fault.Alike)
 unfolding tested fault_of faults
-tested_2 = refl
+tested_numbers = (refl, refl, refl, refl, refl, refl, refl, refl)
 
-pub tested_3 : tested 3 ≡ Err fault.OutOfTurn
-unfolding tested fault_of faults
-tested_3 = refl
-
-pub tested_4 : tested 4 ≡ Err fault.NoSwitch
-unfolding tested fault_of faults
-tested_4 = refl
-
-pub tested_5 : tested 5 ≡ Err fault.NoId
-unfolding tested fault_of faults
-tested_5 = refl
-
-pub tested_6 : tested 6 ≡ Err fault.Unordered
-unfolding tested fault_of faults
-tested_6 = refl
-
-pub tested_7 : tested 7 ≡ Err fault.SameChildren
-unfolding tested fault_of faults
-tested_7 = refl
-
-pub tested_8 : tested 8 ≡ Err fault.Doubled
-unfolding tested fault_of faults
-tested_8 = refl
-
-pub tested_9 : tested 9 ≡ Err fault.Alike
-unfolding tested fault_of faults
-tested_9 = refl
-
-pub ruleset grounds = (tested_lowest, tested_none, tested_2, tested_3, tested_4, tested_5, tested_6, tested_7, tested_8, tested_9)
+pub ruleset grounds = (tested_lowest, tested_none, tested_numbers)
 
 -- grounds 3 to 5 of a node's line, and then the others
 pub node_tested :

@@ -6,12 +6,14 @@ use mathlib.Core.Bool.{Bool, true, false, cond}
 use native.Mathlib.Omega.{arith}
 use native.Mathlib.Numerals.{add-one}
 use Rattle.std.proofs.lemmas.List.{get_or_default, get_or-replicate, take_all}
+use Rattle.std.proofs.lemmas.List.Edits.{fill_by_more}
 use Rattle.std.proofs.lemmas.List.Sums.{sum_by_more, count_by-le-length}
+use Rattle.std.proofs.lemmas.Bool.{cases_Bool}
 use mir.Val.{bool_byte}
 use mathlib.Core.List.{List, []}
 use lib.ListN.{length, get_or, set, take, replicate, length-append, length-set, length-replicate}
 use Rattle.common.specs.Lists.{bit}
-use Rattle.common.proofs.Lists.{by_test, bit_most}
+use Rattle.common.proofs.Lists.{bit_most}
 use Rattle.common.specs.Limits.{max_ids, max_nodes}
 use Rattle.common.specs.Labels.{label_h, label_v}
 use Rattle.diagram.specs.declared.IdWires.{IdWires}
@@ -21,7 +23,6 @@ use Rattle.diagram.specs.Diagram.{Diagram, terminal, id_count, entry, entries, l
 use Rattle.diagram.specs.declared.Diagram.{Diagram as Holder}
 use Rattle.diagram.specs.Wires.{owners, label_has, has_wire, has_row, has_column, row_owners, column_owners, row_of, column_of, row_count, column_count, any_zero, names_zero}
 use Rattle.diagram.specs.Held.{held, WireNumbers, no_wires, wires_of, wires_past, wires_among, dimensions_of}
-use Rattle.diagram.proofs.Tables.{filled_more}
 use Rattle.diagram.proofs.Walk.{by_id}
 
 -- a truth value as a number
@@ -36,7 +37,7 @@ owners_more has i =
     ⊎_elim
     (λ (e : has i ≡ true). rw (e, owners) (simp length-append (omega arith)))
     (λ (e : has i ≡ false). rw (e, owners) (omega arith))
-    (by_test (has i))
+    (cases_Bool (has i))
 
 pub owners_most : (has : ℕ → Bool) (i : ℕ) → length (owners has i) ≤ i
 unfolding owners
@@ -117,7 +118,7 @@ numbered_more d k next w n within few =
     record {
       long = length-set w (k + 2) next ∙ n.long;
       at = rw on (wires_node d k next within n.at);
-      below = rw more (filled_more (wires_of d) w (k + 2) next no_wires (omega (arith, n.long)) n.at n.below);
+      below = rw (more, n.at) (fill_by_more (wires_of d) w (k + 2) no_wires (omega (arith, n.long)) n.below);
     }
 
 pub numbered_all :

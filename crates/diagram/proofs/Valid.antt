@@ -7,12 +7,13 @@ use mathlib.Core.List.{[], ◌∷◌}
 use native.Mathlib.Omega.{arith}
 use lib.ListN.{length, get_or, length-append, get_or-append}
 use lib.Dec.{eqb, ltb}
-use Rattle.std.proofs.lemmas.Bool.{cases_eq}
+use Rattle.std.proofs.lemmas.Bool.{cases_eq, or_parts}
 use Rattle.std.proofs.lemmas.Bool.Decides.{nat_tests}
 use borrow.Author.Tests.{ltb-true, eqb-true, eqb-false, not-false}
+use Rattle.std.proofs.lemmas.List.{get_or_push}
 use Rattle.common.specs.Lists.{any_of}
-use Rattle.common.proofs.Lists.{and_left, and_right, or-none, true_or_false, any_of_none}
-use Rattle.common.proofs.Lists.{at_or_below, get_or_last}
+use Rattle.common.proofs.Lists.{and_left, and_right, any_of_none}
+use Rattle.common.proofs.Lists.{at_or_below}
 use Rattle.common.proofs.Outcome.{not_met, others}
 use Rattle.diagram.specs.declared.Node.{Node}
 use Rattle.diagram.specs.Diagram.{Diagram, terminal, entries, entry, id_count, switch_at, label_at, bare, with_node, with_out}
@@ -108,8 +109,8 @@ node_fits d i n h least most =
     let h9 = others 7 _ _ (others 6 _ _ h7) in
     let within = ltb-true n.x d.switches (not-false (ltb n.x d.switches) (not_met 3 _ _ h4)) in
     let below = not-false (ltb n.l i && ltb n.h i) (not_met 4 _ _ h5) in
-    let order = or-none (unordered d n.x n.l) (unordered d n.x n.h) (not_met 5 _ _ h6) in
-    let unlike = or-none (alike n.t (label_at d n.l)) (alike n.t (label_at d n.h)) (not_met 8 _ _ h9) in
+    let order = or_parts (unordered d n.x n.l) (unordered d n.x n.h) (not_met 5 _ _ h6) in
+    let unlike = or_parts (alike n.t (label_at d n.l)) (alike n.t (label_at d n.h)) (not_met 8 _ _ h9) in
     record {
       tests = within;
       low_below = ltb-true n.l i (and_left (ltb n.l i) (ltb n.h i) below);
@@ -134,7 +135,7 @@ entry_old d n i within = get_or-append (entries d) (n ∷ []) (terminal d.switch
 
 pub entry_new : (d : Diagram) (n : Node) → entry (with_node d n) (id_count d) ≡ n
 unfolding entry entries id_count with_node
-entry_new d n = get_or_last (entries d) n (terminal d.switches 0 0) (id_count d) (omega arith)
+entry_new d n = get_or_push (entries d) n (terminal d.switches 0 0) (id_count d) (omega arith)
 
 -- two nodes with the same switch and children
 record SameNode (n m : Node) : Type 0 where
@@ -215,7 +216,7 @@ module _ (d : Diagram) (n : Node) (facts : Facts d) (none : d.outs ≡ []) (fits
 
   -- the new node is unlike each old one
   unlike : (k : ℕ) → 2 ≤ k → k < id_count d → SameNode n (entry d k) → ⊥
-  unlike k node below s = true_or_false (same_test n (entry d k)) (same_test_lem n (entry d k) s) (no_same d n k new node below)
+  unlike k node below s = cc (same_test_lem n (entry d k) s, no_same d n k new node below)
 
   abbrev Distinct : ℕ → ℕ → Type 0
   Distinct i k = 2 ≤ i → 2 ≤ k → SameNode (entry (with_node d n) i) (entry (with_node d n) k) → i ≡ k
@@ -269,7 +270,7 @@ module _ (d : Diagram) (i : ℕ) (facts : Facts d) (named : i < id_count d) (in_
   unfolding with_out
   by_out P last old j within =
       ⊎_elim
-      (λ (e : j ≡ length d.outs). rw (get_or_last d.outs i 0 j e) last)
+      (λ (e : j ≡ length d.outs). rw (get_or_push d.outs i 0 j (sym e)) last)
       (λ (below : j < length d.outs). rw (get_or-append d.outs (i ∷ []) 0 j below) (old j below))
       (at_or_below j (length d.outs) (omega (arith, length-append d.outs (i ∷ []))))
 

@@ -8,7 +8,7 @@ use mathlib.Core.List.{List}
 use native.Mathlib.Omega.{arith}
 use lib.ListN.{length, get_or}
 use lib.Dec.{eqb}
-use Rattle.common.proofs.Lists.{by_test}
+use Rattle.std.proofs.lemmas.Bool.{cases_Bool}
 use Rattle.diagram.specs.Diagram.{Diagram, terminal, entries, entry, id_count, switch_at, low_at, high_at}
 use Rattle.diagram.specs.Walk.{step, steps, walk_end, Falls}
 use Rattle.diagram.specs.Facts.{Facts}
@@ -42,7 +42,7 @@ step_cases P d s i low high =
     ⊎_elim
     (λ (e : eqb (get_or s (switch_at d i) 0) 1 ≡ true). rw (step-high d s i e) high)
     (λ (e : eqb (get_or s (switch_at d i) 0) 1 ≡ false). rw (step_low d s i e) low)
-    (by_test (eqb (get_or s (switch_at d i) 0) 1))
+    (cases_Bool (eqb (get_or s (switch_at d i) 0) 1))
 
 -- a terminal is its own child
 pub step_zero : (d : Diagram) (s : List ℕ) → step d s 0 ≡ 0
@@ -64,10 +64,6 @@ facts_fall d facts =
 pub step_falls : (d : Diagram) (s : List ℕ) → Falls d → (i : ℕ) → 2 ≤ i → i < id_count d → step d s i < i
 step_falls d s falls i node within =
     step_cases (λ k. k < i) d s i (falls.low_falls i node within) (falls.high_falls i node within)
-
-pub step_below :
-    (d : Diagram) (s : List ℕ) → Facts d → (i : ℕ) → 2 ≤ i → i < id_count d → step d s i < i
-step_below d s facts = step_falls d s (facts_fall d facts)
 
 -- no number of steps leaves an id that is its own step
 pub steps_stay : (d : Diagram) (s : List ℕ) (n i : ℕ) → step d s i ≡ i → steps d s n i ≡ i

@@ -10,8 +10,8 @@ use mir.Val.{bool_byte}
 use lib.ListN.{length, get_or, get_or-eq_default}
 use lib.Dec.{eqb}
 use borrow.Author.Tests.{ne_eqb}
+use Rattle.std.proofs.lemmas.Bool.{cases_Bool, cases_lt}
 use Rattle.common.specs.Lists.{bit}
-use Rattle.common.proofs.Lists.{by_test, below_or_not}
 use Rattle.diagram.specs.declared.Node.{Node}
 use Rattle.diagram.specs.Diagram.{Diagram, terminal, entries, entry, id_count, switch_at}
 use Rattle.diagram.specs.Walk.{step, steps, walk_end, walk_value, Falls}
@@ -26,7 +26,7 @@ step_child d s i =
     ⊎_elim
     (λ (e : eqb (get_or s (switch_at d i) 0) 1 ≡ true). rw e (step-high d s i e))
     (λ (e : eqb (get_or s (switch_at d i) 0) 1 ≡ false). rw e (step_low d s i e))
-    (by_test (eqb (get_or s (switch_at d i) 0) 1))
+    (cases_Bool (eqb (get_or s (switch_at d i) 0) 1))
 
 -- an id past the last has terminal 0's entry, so the walk from it goes to 0
 past_entry : (d : Diagram) (i : ℕ) → id_count d ≤ i → entry d i ≡ terminal d.switches 0 0
@@ -67,4 +67,4 @@ module _ (d : Diagram) (s : List ℕ) (falls : Falls d) where
       (⊎_elim
       (λ (below : i < id_count d). ap (λ (k : ℕ). eqb k 1) (walk_ends_at below ends))
       (λ (past : id_count d ≤ i). past_ends_at past ends)
-      (below_or_not i (id_count d)))
+      (cases_lt i (id_count d)))

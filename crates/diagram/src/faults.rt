@@ -1,4 +1,5 @@
 // Document 01, "Grounds for sending a job back", 2 to 9: the ground with the lowest number that a line meets.
+// An `as` here widens a `u32`, for which there is no `From`.
 ghost use Rattle.std.specs.Prelude.{◌≡◌, ◌<◌, ◌||◌, []};
 ghost use Rattle.common.specs.Fault.{tested};
 ghost use Rattle.diagram.specs.Faults.{head_fault, one_fault, alike, node_fault, out_fault};
@@ -8,7 +9,7 @@ ghost use Rattle.diagram.specs.Seen.{Marked};
 use super::seen::Seen;
 use super::{Diagram, Node};
 use common::{Fault, LABEL_H, LABEL_V, MAX_NODES, MAX_OUTPUTS, MAX_SWITCHES};
-use forms::NodeForm;
+use forms::{JobForm, NodeForm, OutForm};
 
 // What the lines before a node's line give: the diagram so far, and the marks of its nodes.
 #[derive(Clone, Copy)]
@@ -65,10 +66,14 @@ impl Earlier<'_, '_> {
 
 // Ground 2, on the figures of the first line.
 #[tactic(auto, using(crate::proofs::FaultLaws::grounds), unfolding(crate::specs::Faults::head_fault, common::specs::Limits::max_switches, common::specs::Limits::max_nodes, common::specs::Limits::max_outputs))]
-pub fn head_fault(v: u32, n: u32, k: u32) -> Result<(), Fault>
-    ensures { result ≡ tested (head_fault v n k) }
+pub fn head_fault(head: JobForm) -> Result<(), Fault>
+    ensures { result ≡ tested (head_fault head.switches head.nodes head.outputs) }
 {
-    if MAX_SWITCHES < v as usize || MAX_NODES < n as usize || k < 1 || MAX_OUTPUTS < k as usize {
+    if MAX_SWITCHES < head.switches as usize
+        || MAX_NODES < head.nodes as usize
+        || head.outputs < 1
+        || MAX_OUTPUTS < head.outputs as usize
+    {
         return Err(Fault::OutOfRange);
     }
     Ok(())
@@ -100,18 +105,19 @@ fn alike_child(node: Node, low: Node, high: Node) -> bool
     alike(node.t, low.t) || alike(node.t, high.t)
 }
 
-// Grounds 3, 5 and 9, on `(out J I)` after the outputs that name these ids.
+// Grounds 3, 5 and 9, on `(out J I)` after the outputs that name these ids. The ids are a parameter beside the diagram and no field of it: the reader
+// fills them while it reads the diagram, and the nodes' tests and the walk ask for none.
 #[tactic(auto, using(crate::proofs::FaultLaws::grounds, crate::proofs::FaultLaws::entry_of_held), unfolding(crate::specs::Faults::out_fault, crate::specs::Held::held, crate::specs::Diagram::id_count))]
-pub fn out_fault(d: &Diagram, outs: &[u16], j: u32, i: u32) -> Result<(), Fault>
-    ensures { result ≡ tested (out_fault (held d.now outs.now) j i) }
+pub fn out_fault(d: &Diagram, outs: &[u16], out: OutForm) -> Result<(), Fault>
+    ensures { result ≡ tested (out_fault (held d.now outs.now) out.number out.target) }
 {
-    if j as usize != outs.len() {
+    if out.number as usize != outs.len() {
         return Err(Fault::OutOfTurn);
     }
-    if d.id_count() <= i as usize {
+    if d.id_count() <= out.target as usize {
         return Err(Fault::NoId);
     }
-    if d.entry(i as usize).t == LABEL_V {
+    if d.entry(out.target as usize).t == LABEL_V {
         return Err(Fault::Alike);
     }
     Ok(())

@@ -29,9 +29,9 @@ impl Node {
     // `TryFrom`, whose refusal could not come: the tests before it have shown that the values fit.
     #[tactic(auto, unfolding(crate::specs::Held::node_given))]
     pub fn given(values: NodeForm) -> Node
-        requires x_fits { values.x < 2 ^ 16 }
-        requires l_fits { values.l < 2 ^ 16 }
-        requires h_fits { values.h < 2 ^ 16 }
+        requires x_fits { values.x ≤ u16.MAX }
+        requires l_fits { values.l ≤ u16.MAX }
+        requires h_fits { values.h ≤ u16.MAX }
         ensures { result ≡ node_given values }
     {
         Node {

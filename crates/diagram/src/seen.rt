@@ -1,9 +1,8 @@
 // Ground 8: "An earlier node has the same X, L and H." Each node so far has marked the place of its X, L and H, so only a node whose
 // place is marked is compared with them all. The marks are an array and no set, since no call may allocate.
-ghost use Rattle.std.specs.Prelude.{◌≡◌, [], ◌∷◌, ◌++◌, List};
+ghost use Rattle.std.specs.Prelude.{◌≡◌, []};
 ghost use Rattle.std.specs.List.{list_any};
 ghost use Rattle.common.specs.Lists.{any_of};
-ghost use Rattle.diagram.specs.declared.Node.{Node};
 ghost use Rattle.diagram.specs.Faults.{same_test};
 ghost use Rattle.diagram.specs.Seen.{seen_place, no_marks, with_mark, Marked};
 
@@ -30,10 +29,9 @@ impl Seen {
     }
 
     // Marks a node too.
-    #[tactic(auto, using(crate::proofs::SeenLaws::place_below, crate::proofs::SeenLaws::marked_more), unfolding(crate::specs::Seen::with_mark, crate::specs::Seen::max_seen))]
+    #[tactic(auto, using(crate::proofs::SeenLaws::place_below), unfolding(crate::specs::Seen::with_mark, crate::specs::Seen::max_seen))]
     pub fn mark(&mut self, node: Node)
-        ensures exact { self.new ≡ with_mark self.old node }
-        ensures marked { (nodes : List Node) → Marked self.old nodes → Marked self.new (nodes ++ node ∷ []) }
+        ensures { self.new ≡ with_mark self.old node }
     {
         self.marks[place_of(node)] = true;
     }

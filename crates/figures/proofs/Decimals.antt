@@ -11,8 +11,9 @@ use lib.ListN.{length, drop}
 use lib.Seq.{drop_at}
 use lib.Dec.{eqb, leb, eqb-suc-zero}
 use borrow.Author.Tests.{leb-true, le-leb, ne_eqb, lt-ltb, le-ltb, not-true}
+use Rattle.std.proofs.lemmas.Bool.{both_ways, cases_Bool, cases_lt, and_from, or_right}
 use Rattle.common.specs.Lists.{all_of}
-use Rattle.common.proofs.Lists.{by_test, and_left, and_right, and_both, or_right, true_or_false, below_or_not}
+use Rattle.common.proofs.Lists.{and_left, and_right}
 use Rattle.figures.specs.Figure.{is_digit, digits_of, is_figure, number_from, Figured, take_figure, digits, decimal}
 use Rattle.figures.proofs.Digits.{digit_range, digits_of_digit, digits_of_other, take_is, take_not}
 
@@ -24,7 +25,7 @@ no_digit_first (b ∷ s) = not (is_digit b)
 digit_is : (d : ℕ) → d < 10 → is_digit (48 + d) ≡ true
 unfolding is_digit
 digit_is d h =
-    and_both (leb 48 (48 + d)) (leb (48 + d) 57) (le-leb 48 (48 + d) (omega arith)) (le-leb (48 + d) 57 (omega arith))
+    and_from (leb 48 (48 + d)) (leb (48 + d) 57) (le-leb 48 (48 + d) (omega arith)) (le-leb (48 + d) 57 (omega arith))
 
 -- 10 to the power k
 unfoldable ten_to : ℕ → ℕ
@@ -50,13 +51,13 @@ digits-bytes : (k n : ℕ) (s : List ℕ) → all_of is_digit s ≡ true → all
 unfolding all_of
 digits-bytes zero n s h = unfold digits in h
 digits-bytes (suc k) n s h =
-    elim (below_or_not n 10) [
-      | inl l ↦ rw (digits_one k n s l) (and_both (is_digit (48 + n)) (all_of is_digit s) (digit_is n l) h)
+    elim (cases_lt n 10) [
+      | inl l ↦ rw (digits_one k n s l) (and_from (is_digit (48 + n)) (all_of is_digit s) (digit_is n l) h)
       | inr l ↦
           let d : n % 10 < 10 = omega arith in
           rw (digits_more k n s l)
           (digits-bytes k (n / 10) ((48 + n % 10) ∷ s)
-          (and_both (is_digit (48 + n % 10)) (all_of is_digit s) (digit_is (n % 10) d) h))
+          (and_from (is_digit (48 + n % 10)) (all_of is_digit s) (digit_is (n % 10) d) h))
     ]
 
 pub decimal-bytes : (n : ℕ) → n < 100000 → all_of is_digit (decimal n) ≡ true
@@ -77,7 +78,7 @@ digits_number : (k n : ℕ) (s : List ℕ) → n < ten_to k → number_from 0 (d
 unfolding ten_to
 digits_number zero n s h = let e : n ≡ 0 = omega arith in rw (e, digits_none 0 s)
 digits_number (suc k) n s h =
-    elim (below_or_not n 10) [
+    elim (cases_lt n 10) [
       | inl l ↦ rw (digits_one k n s l) (number_next 0 (48 + n) n s (omega arith))
       | inr l ↦
           let below : n / 10 < ten_to k = omega arith in
@@ -89,7 +90,7 @@ digits_number (suc k) n s h =
 pub digits-length : (k n : ℕ) (s : List ℕ) → length (digits k n s) ≤ k + length s
 digits-length zero n s = unfold digits in omega arith
 digits-length (suc k) n s =
-    elim (below_or_not n 10) [
+    elim (cases_lt n 10) [
       | inl l ↦ rw (digits_one k n s l) (omega arith)
       | inr l ↦ rw (digits_more k n s l) (omega (arith, digits-length k (n / 10) ((48 + n % 10) ∷ s)))
     ]
@@ -103,7 +104,7 @@ digits_lead : (k n : ℕ) (s : List ℕ) → 1 ≤ n → n < ten_to k → leads 
 unfolding ten_to
 digits_lead zero n s p h = absurd (omega arith)
 digits_lead (suc k) n s p h =
-    elim (below_or_not n 10) [
+    elim (cases_lt n 10) [
       | inl l ↦ rw (digits_one k n s l) (unfold leads in rw (ne_eqb (48 + n) 48 (λ (e : 48 + n ≡ 48). omega arith)))
       | inr l ↦
           let least : 1 ≤ n / 10 = omega arith in
@@ -116,7 +117,7 @@ lead_figure : (ds : List ℕ) → leads ds ≡ true → length ds ≤ 5 → is_f
 unfolding leads is_figure
 lead_figure [] p h = p
 lead_figure (b ∷ ds) p h =
-    and_both (leb (length ds) 4) (eqb (length ds) 0 || not (eqb b 48))
+    and_from (leb (length ds) 4) (eqb (length ds) 0 || not (eqb b 48))
     (le-leb (length ds) 4 (omega arith))
     (or_right (eqb (length ds) 0) (not (eqb b 48)) p)
 
@@ -206,7 +207,7 @@ figure_zero [] f = refl
 figure_zero (b ∷ ds) f =
     let e : eqb (suc (length ds)) 0 ≡ false = eqb-suc-zero (length ds) in
     let h = and_right (leb (suc (length ds)) 4) (eqb (suc (length ds)) 0 || false) f in
-    absurd (true_or_false (eqb (suc (length ds)) 0 || false) h (rw e))
+    absurd (both_ways (eqb (suc (length ds)) 0 || false) (rw e) h)
 
 -- a figure is the decimal of its number, which is below 100000
 decimal_is : (n : ℕ) → decimal n ≡ digits 5 n []
@@ -225,7 +226,7 @@ figure_decimal (b ∷ ds) f h =
     let range = digit_range b (and_left (is_digit b) (all_of is_digit ds) h) in
     let low : 48 ≤ b = range.0 in
     let high : b ≤ 57 = range.1 in
-    elim (below_or_not 48 b) [
+    elim (cases_lt 48 b) [
       | inl more ↦
           let k : ℕ = 4 - length ds in
           let back : 48 + (b - 48) ≡ b = omega arith in
@@ -251,16 +252,16 @@ digits_of-bytes : (s : List ℕ) → all_of is_digit (digits_of s) ≡ true
 unfolding all_of
 digits_of-bytes [] = unfold digits_of in refl
 digits_of-bytes (b ∷ s) =
-    elim (by_test (is_digit b)) [
+    elim (cases_Bool (is_digit b)) [
       | inl h ↦
-          rw (digits_of_digit b s h) (and_both (is_digit b) (all_of is_digit (digits_of s)) h (digits_of-bytes s))
+          rw (digits_of_digit b s h) (and_from (is_digit b) (all_of is_digit (digits_of s)) h (digits_of-bytes s))
       | inr h ↦ rw (digits_of_other b s h)
     ]
 
 digits_of_rest : (s : List ℕ) → digits_of s ++ drop (length (digits_of s)) s ≡ s
 digits_of_rest [] = unfold digits_of in refl
 digits_of_rest (b ∷ s) =
-    elim (by_test (is_digit b)) [
+    elim (cases_Bool (is_digit b)) [
       | inl h ↦ rw (digits_of_digit b s h) (ap (λ (r : List ℕ). b ∷ r) (digits_of_rest s))
       | inr h ↦ rw (digits_of_other b s h)
     ]
@@ -268,7 +269,7 @@ digits_of_rest (b ∷ s) =
 pub decimal_taken :
     (s : List ℕ) (f : Figured) → take_figure s ≡ some f → (s ≡ decimal f.figure ++ f.rest) × (f.figure < 100000)
 decimal_taken s f e =
-    elim (by_test (is_figure (digits_of s))) [
+    elim (cases_Bool (is_figure (digits_of s))) [
       | inl h ↦
           let g = take_is s h in
           let n : number_from 0 (digits_of s) ≡ f.figure = cc in

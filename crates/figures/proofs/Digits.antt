@@ -11,7 +11,9 @@ use native.Mathlib.Numerals.{add-one}
 use lib.ListN.{length, drop}
 use lib.Dec.{eqb, leb, eqb-suc-zero}
 use borrow.Author.Tests.{eqb-true, eqb-false, eq-eqb, ne_eqb, le-leb, lt-leb, leb-true}
-use Rattle.common.proofs.Lists.{by_test, and_left, and_right, and-false, or_right, below_or_not}
+use Rattle.std.proofs.lemmas.Bool.{cases_Bool, cases_lt, or_right}
+use Rattle.std.proofs.Math.Bool.{and-false}
+use Rattle.common.proofs.Lists.{and_left, and_right}
 use Rattle.figures.specs.Figure.{is_digit, digits_of, is_figure, number_from, Figured, take_figure}
 use Rattle.figures.specs.Reading.{first_digit}
 
@@ -90,12 +92,12 @@ reads_all : (k v : ℕ) (s : List ℕ) → (v ≡ 0 → ⊥) → length (digits_
 unfolding number_from
 reads_all k v [] p h = on_empty k v
 reads_all zero v (b ∷ s) p h =
-    elim (by_test (is_digit b)) [
+    elim (cases_Bool (is_digit b)) [
       | inl e ↦ absurd (omega (arith, ap length (digits_of_digit b s e)))
       | inr e ↦ on_other zero v b s e ∙ rw (digits_of_other b s e)
     ]
 reads_all (suc k) v (b ∷ s) p h =
-    elim (by_test (is_digit b)) [
+    elim (cases_Bool (is_digit b)) [
       | inl e ↦
           let d = digits_of_digit b s e in
           on_digit k v b s e p ∙ reads_all k (v * 10 + (b - 48)) s (λ z. p (omega arith)) (omega (arith, ap length d)) ∙ rw d
@@ -105,12 +107,12 @@ reads_all (suc k) v (b ∷ s) p h =
 reads_none : (k v : ℕ) (s : List ℕ) → (v ≡ 0 → ⊥) → k < length (digits_of s) → read_on k v s ≡ none
 reads_none k v [] p h = unfold digits_of in absurd (omega arith)
 reads_none zero v (b ∷ s) p h =
-    elim (by_test (is_digit b)) [
+    elim (cases_Bool (is_digit b)) [
       | inl e ↦ on_many v b s e
       | inr e ↦ absurd (omega (arith, ap length (digits_of_other b s e)))
     ]
 reads_none (suc k) v (b ∷ s) p h =
-    elim (by_test (is_digit b)) [
+    elim (cases_Bool (is_digit b)) [
       | inl e ↦
           on_digit k v b s e p ∙ reads_none k (v * 10 + (b - 48)) s (λ z. p (omega arith)) (omega (arith, ap length (digits_of_digit b s e)))
       | inr e ↦ absurd (omega (arith, ap length (digits_of_other b s e)))
@@ -131,7 +133,7 @@ reads_zero : (s : List ℕ) → read_on 4 0 s ≡ take_figure (48 ∷ s)
 unfolding read_on digits_of number_from
 reads_zero [] = on_empty 4 0 ∙ sym (zero_one [] refl)
 reads_zero (b ∷ s) =
-    elim (by_test (is_digit b)) [
+    elim (cases_Bool (is_digit b)) [
       | inl e ↦ rw (first_is b s e, read_on) (sym (zero_more b s e))
       | inr e ↦ on_other 4 0 b s e ∙ sym (zero_one (b ∷ s) (digits_of_other b s e))
     ]
@@ -148,11 +150,11 @@ unfolding is_figure number_from
 take_digit b s h =
     let r = digit_range b h in
     let d = digits_of_digit b s h in
-    elim (by_test (eqb b 48)) [
+    elim (cases_Bool (eqb b 48)) [
       | inl e ↦ let z : b ≡ 48 = eqb-true b 48 e in rw z (sym (reads_zero s))
       | inr e ↦
           let p : b - 48 ≡ 0 → ⊥ = λ z. eqb-false b 48 e (omega arith) in
-          elim (below_or_not (length (digits_of s)) 5) [
+          elim (cases_lt (length (digits_of s)) 5) [
             | inl few ↦
                 take_is (b ∷ s) (rw (d, e, le-leb (length (digits_of s)) 4 (omega arith)) (or_right (eqb (length (digits_of s)) 0) true refl)) ∙ ap some (first_whole b s h) ∙ sym (reads_all 4 (b - 48) s p (omega arith))
             | inr many ↦
@@ -170,7 +172,7 @@ record First (s : List ℕ) (d : Figured) : Type 0 where
 first_of : (s : List ℕ) (d : Figured) → first_digit s ≡ some d → First s d
 first_of [] d h = unfold first_digit in absurd cc
 first_of (b ∷ s) d h =
-    elim (by_test (is_digit b)) [
+    elim (cases_Bool (is_digit b)) [
       | inl e ↦ let k = first_is b s e in record { byte = b; front = cc; digit = e; value = cc }
       | inr e ↦ let k = first_not b s e in absurd cc
     ]
@@ -179,7 +181,7 @@ none_of : (s : List ℕ) → first_digit s ≡ none → digits_of s ≡ []
 unfolding digits_of
 none_of [] h = refl
 none_of (b ∷ s) h =
-    elim (by_test (is_digit b)) [ inl e ↦ (let k = first_is b s e in absurd cc) | inr e ↦ digits_of_other b s e ]
+    elim (cases_Bool (is_digit b)) [ inl e ↦ (let k = first_is b s e in absurd cc) | inr e ↦ digits_of_other b s e ]
 
 pub take_none : (s : List ℕ) → first_digit s ≡ none → take_figure s ≡ none
 unfolding is_figure

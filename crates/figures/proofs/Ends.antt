@@ -6,7 +6,7 @@ use mathlib.Core.Logic.{inl, inr}
 use mathlib.Core.List.{List, [], ◌∷◌}
 use lib.ListN.{length}
 use lib.Dec.{eqb, eqb-suc-zero}
-use Rattle.common.proofs.Lists.{by_test}
+use Rattle.std.proofs.lemmas.Bool.{cases_Bool}
 use Rattle.figures.specs.Line.{Lines, left, ◌⏎◌, onto, lines_of, follows}
 use Rattle.figures.proofs.Line.{lines_feed, lines_byte}
 
@@ -18,7 +18,7 @@ follows-onto b (l ⏎ ls) = refl
 follows_byte : (b : ℕ) (s : List ℕ) → follows (lines_of (b ∷ s)) ≡ true
 unfolding follows
 follows_byte b s =
-    elim (by_test (eqb b 10)) [ inl e ↦ rw (lines_feed b s e) | inr e ↦ rw (lines_byte b s e) (follows-onto b (lines_of s)) ]
+    elim (cases_Bool (eqb b 10)) [ inl e ↦ rw (lines_feed b s e) | inr e ↦ rw (lines_byte b s e) (follows-onto b (lines_of s)) ]
 
 -- bytes are left just where the text is not empty
 pub follows_is : (s : List ℕ) → follows (lines_of s) ≡ not (eqb (length s) 0)

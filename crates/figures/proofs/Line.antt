@@ -2,6 +2,7 @@
 use Rattle.std.specs.Prelude.{Some, None, position}
 use Rattle.std.specs.List.{position_or_len}
 use Rattle.std.proofs.lemmas.List.{take_rest}
+use Rattle.std.proofs.lemmas.Bool.{cases_Bool, cases_lt, and_from}
 use Prim.Native.Nat.{ℕ, suc, ◌+◌, ◌-◌, ◌<◌, ◌≤◌}
 use mathlib.Core.Path.{◌≡◌, refl, sym, ap, ◌∙◌}
 use mathlib.Core.Logic.{inl, inr}
@@ -13,7 +14,7 @@ use lib.ListN.{length, take, drop}
 use lib.Dec.{eqb}
 use borrow.Author.Tests.{eqb-true, not-true, lt-ltb, le-ltb}
 use Rattle.common.specs.Lists.{all_of}
-use Rattle.common.proofs.Lists.{by_test, and_left, and_right, and_both, below_or_not}
+use Rattle.common.proofs.Lists.{and_left, and_right}
 use Rattle.figures.specs.Line.{Lines, left, ◌⏎◌, onto, lines_of, follows}
 
 -- whether no byte is a line feed
@@ -54,7 +55,7 @@ text_feed ls = refl
 pub text_lines : (s : List ℕ) → text_of (lines_of s) ≡ s
 text_lines [] = unfold lines_of text_of in refl
 text_lines (b ∷ s) =
-    elim (by_test (eqb b 10)) [
+    elim (cases_Bool (eqb b 10)) [
       | inl h ↦ ap text_of (lines_feed b s h) ∙ text_feed (lines_of s) ∙ rw (text_lines s, eqb-true b 10 h)
       | inr h ↦ ap text_of (lines_byte b s h) ∙ text_onto b (lines_of s) ∙ ap (λ (l : List ℕ). b ∷ l) (text_lines s)
     ]
@@ -88,14 +89,14 @@ onto_first b s l ls (m ⏎ ns) e first h =
       remains = f.remains;
       text = ap (λ (r : List ℕ). b ∷ r) f.text ∙ ap (λ (r : List ℕ). r ++ (10 ∷ f.remains)) p;
       others = sym q ∙ f.others;
-      alone = ap one_line (sym p) ∙ and_both (not (eqb b 10)) (one_line m) (rw e) f.alone;
+      alone = ap one_line (sym p) ∙ and_from (not (eqb b 10)) (one_line m) (rw e) f.alone;
     }
 
 pub first_line : (s l : List ℕ) (ls : Lines) → lines_of s ≡ l ⏎ ls → First s l ls
 unfolding one_line all_of
 first_line [] l ls h = unfold lines_of in absurd cc
 first_line (b ∷ s) l ls h =
-    elim (by_test (eqb b 10)) [
+    elim (cases_Bool (eqb b 10)) [
       | inl e ↦
           let g : [] ⏎ lines_of s ≡ l ⏎ ls = sym (lines_feed b s e) ∙ h in
           let p : [] ≡ l = cc in
@@ -120,7 +121,7 @@ feed_lines : (s : List ℕ) → position_or_len is_feed s < length s → lines_o
 unfolding onto
 feed_lines [] h = absurd (omega arith)
 feed_lines (b ∷ s) h =
-    elim (by_test (eqb b 10)) [
+    elim (cases_Bool (eqb b 10)) [
       | inl e ↦ rw (e, lines_feed b s e)
       | inr e ↦
           let n : position_or_len is_feed (b ∷ s) ≡ suc (position_or_len is_feed s) = rw e (omega arith) in
@@ -132,7 +133,7 @@ no_feed : (s : List ℕ) → length s ≤ position_or_len is_feed s → lines_of
 unfolding onto lines_of
 no_feed [] h = refl
 no_feed (b ∷ s) h =
-    elim (by_test (eqb b 10)) [
+    elim (cases_Bool (eqb b 10)) [
       | inl e ↦ let n : position_or_len is_feed (b ∷ s) ≡ 0 = rw e in absurd (omega arith)
       | inr e ↦
           let n : position_or_len is_feed (b ∷ s) ≡ 1 + position_or_len is_feed s = rw e in
@@ -142,14 +143,14 @@ no_feed (b ∷ s) h =
 
 pub line_none : (s : List ℕ) → None ≡ position is_feed s → lines_of s ≡ left s
 line_none s h =
-    elim (below_or_not (position_or_len is_feed s) (length s)) [
+    elim (cases_lt (position_or_len is_feed s) (length s)) [
       | inl k ↦ absurd (let e = rw (lt-ltb _ _ k) at h in cc)
       | inr k ↦ no_feed s k
     ]
 
 pub line_found : (s : List ℕ) (i : ℕ) → Some i ≡ position is_feed s → (i < length s) × (lines_of s ≡ take i s ⏎ lines_of (take (length s - (i + 1)) (drop (i + 1) s)))
 line_found s i h =
-    elim (below_or_not (position_or_len is_feed s) (length s)) [
+    elim (cases_lt (position_or_len is_feed s) (length s)) [
       | inl k ↦
           let e = rw (lt-ltb _ _ k) at h in
           let n : i ≡ position_or_len is_feed s = cc in

@@ -8,13 +8,13 @@ use mathlib.Core.List.{List, [], ◌∷◌, ◌++◌}
 use lib.ListN.{length, take, drop}
 use lib.Dec.{eqb}
 use borrow.Author.Tests.{eqb-true, eq-eqb}
-use Rattle.common.proofs.Lists.{by_test}
 use Rattle.std.specs.Prelude.{Some, None, MatchOption}
 use Rattle.std.specs.Cmp.Lexicographic.{pointwise}
 use Rattle.std.specs.Prelude as Option
 use Rattle.std.specs.Borrow.{Bor}
 use Rattle.std.proofs.lemmas.Slice.Eq.{strip_prefix_is}
 use Rattle.std.proofs.lemmas.Bool.Decides.{Decides-eqb}
+use Rattle.std.proofs.lemmas.Bool.{cases_Bool}
 use Rattle.figures.specs.Bytes.{after}
 use Rattle.figures.specs.Reading.{Given}
 
@@ -36,7 +36,7 @@ pub after_taken : (w s r : List ℕ) → after w s ≡ some r → s ≡ w ++ r
 after_taken [] s r h = unfold after in cc
 after_taken (a ∷ w) [] r h = unfold after in absurd cc
 after_taken (a ∷ w) (b ∷ s) r h =
-    elim (by_test (eqb a b)) [
+    elim (cases_Bool (eqb a b)) [
       | inl e ↦
           let p = after_taken w s r (sym (after_same a b w s e) ∙ h) in
           let q = eqb-true a b e in

@@ -5,12 +5,15 @@ use mathlib.Core.Bool.{true, false}
 use mathlib.Core.Logic.{inl, inr}
 use mathlib.Core.List.{List, [], ◌∷◌, ◌++◌, append_assoc, append-nil}
 use native.Mathlib.Omega.{arith}
+use native.Mathlib.Numerals.{add-one}
 use lib.ListN.{length, take, drop, set, length-append, length-drop, length-set, take-append-drop, drop_of_length-le}
-use lib.Seq.{drop-cons, drop-drop, get_or-set_same, drop-set-lt, take_at, drop-append-add, length-take-le}
+use lib.Seq.{drop-drop, take_at, drop-append-add, length-take-le}
 use lib.Dec.{ltb}
 use borrow.Rule.Slice.PartMut.{put_mid}
 use borrow.Author.Tests.{lt-ltb, le-ltb}
-use Rattle.common.proofs.Lists.{by_test, below_or_not}
+use Rattle.std.proofs.lemmas.Bool.{cases_Bool, cases_lt}
+use Rattle.std.proofs.lemmas.List.{drop-replicate, drop-set}
+use Rattle.common.specs.Lists.{zeros, padded}
 use Rattle.figures.specs.Figure.{digits, decimal}
 use Rattle.figures.specs.Position.{splice}
 use Rattle.figures.proofs.Decimals.{digits_one, digits_more, digits-length}
@@ -42,6 +45,11 @@ module _ (s : List ℕ) where
   unfolding splice
   splice_nil at = let e : at + 0 ≡ at = omega arith in rw (e, append-nil) (take-append-drop at s)
 
+-- a text written at the start of zeros
+pub splice-zeros : (room : ℕ) (w : List ℕ) → splice (zeros room) 0 w ≡ padded room w
+unfolding splice padded
+splice-zeros room w = let e : 0 + length w ≡ length w = omega arith in rw (e, drop-replicate)
+
 -- a slice of as many bytes as a word, filled with it
 pub put_splice : (s w x : List ℕ) (at n : ℕ) → x ≡ w → n ≡ length w → put_mid at n s x ≡ splice s at w
 unfolding splice
@@ -69,13 +77,13 @@ count_more k n h = rw (le-ltb n 10 h, count)
 
 count_last : (n : ℕ) → count 1 n ≡ 1
 unfolding count
-count_last n = elim (by_test (ltb n 10)) [ inl e ↦ rw (e, count) | inr e ↦ rw (e, count) ]
+count_last n = elim (cases_Bool (ltb n 10)) [ inl e ↦ rw (e, count) | inr e ↦ rw (e, count) ]
 
 digits_last : (k n : ℕ) (s : List ℕ) → digits k n s ≡ last (count k n) n s
 unfolding last count digits
 digits_last zero n s = refl
 digits_last (suc k) n s =
-    elim (below_or_not n 10) [
+    elim (cases_lt n 10) [
       | inl h ↦ let e : 48 + n ≡ 48 + n % 10 = omega arith in digits_one k n s h ∙ rw (count_one k n h, ← e)
       | inr h ↦ digits_more k n s h ∙ digits_last k (n / 10) ((48 + n % 10) ∷ s) ∙ rw (count_more k n h)
     ]
@@ -147,11 +155,6 @@ last-append (suc k) n s =
     last-append k (n / 10) ((48 + n % 10) ∷ s)
     ∙ sym (ap (λ (l : List ℕ). l ++ s) (last-append k (n / 10) ((48 + n % 10) ∷ [])) ∙ append_assoc (last k (n / 10) []) ((48 + n % 10) ∷ []) s)
 
-drop-set : (s : List ℕ) (i b : ℕ) → i < length s → drop i (set s i b) ≡ b ∷ drop (suc i) s
-drop-set s i b h =
-    let l : i < length (set s i b) = simp length-set h in
-    drop-cons (set s i b) i 0 l ∙ rw (get_or-set_same s i b 0 h, drop-set-lt (suc i) s i b (omega arith))
-
 fill_last : (k n : ℕ) (s : List ℕ) → k ≤ length s → fill k n s ≡ last k n [] ++ drop k s
 unfolding fill last
 fill_last zero n s h = refl
@@ -159,7 +162,7 @@ fill_last (suc k) n s h =
     let b : ℕ = 48 + n % 10 in
     let l : k ≤ length (set s k b) = simp length-set (omega arith) in
     fill_last k (n / 10) (set s k b) l
-    ∙ rw (drop-set s k b h, last-append k (n / 10) (b ∷ [])) (sym (append_assoc (last k (n / 10) []) (b ∷ []) (drop (suc k) s)))
+    ∙ rw (drop-set s k b h, add-one, last-append k (n / 10) (b ∷ [])) (sym (append_assoc (last k (n / 10) []) (b ∷ []) (drop (suc k) s)))
 
 decimal_last : (n : ℕ) → decimal n ≡ last (length (decimal n)) n []
 unfolding decimal

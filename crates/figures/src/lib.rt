@@ -25,7 +25,7 @@ pub struct Figured<'a> {
 
 // The position of the first line feed.
 fn line_feed(text: &[u8]) -> Option<usize>
-    ensures { result ≡ position (λ b. b == 10) text.now }
+    ensures { result ≡ position (λ b. b == LINE_FEED) text.now }
 {
     text.iter().position(|b| *b == LINE_FEED)
 }
@@ -106,7 +106,8 @@ pub fn figure_length(n: u32) -> usize
 }
 
 // Writes the figure of `n` at the front of a slice that has room for it, the last digit first. The library writes a number into a formatter and
-// not into a slice; the digits are written by their index, since after `iter_mut().rev()` a proof knows nothing of the elements.
+// not into a slice; the digits are written by their index, since after `iter_mut().rev()` a proof knows nothing of the elements. A digit
+// is narrowed by `as`: it is below 10.
 #[tactic(auto, using(crate::proofs::Writing::fill_step))]
 pub fn write_figure(out: &mut [u8], n: u32)
     requires { length (decimal n) ≤ length out.old }

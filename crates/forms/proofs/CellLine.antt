@@ -192,13 +192,17 @@ module _ (s : List ℕ) where
 
 -- A reader that answers what it read, or the refusal, keeps the promise of a cell line.
 module _ (n : ℕ) (s : List ℕ) where
-  refused_is : (r : LineRead) → front_cell s ≡ none → r.form ≡ not_due n → CellIs n s r.form r.rest.now
+  refused_is : (r : LineRead) → front_cell s ≡ none → (r.form ≡ not_due n) × (r.rest.now ≡ s) → CellIs n s r.form r.rest.now
   unfolding placed_form placed_in
   refused_is r h e = by (by_place s (front_place s) refl)
     where
       by : CellRead s → CellIs n s r.form r.rest.now
       by (a_cell p l rest c ls k) = absurd cc
-      by (no_cell c none_there) = record { yields = e ∙ sym (ap (placed_form n) (at_lines (lines_of s) refl)); leaves = λ l ls p d k. let z = none_there l ls d in absurd cc }
+      by (no_cell c none_there) = record {
+        yields = e.0 ∙ sym (ap (placed_form n) (at_lines (lines_of s) refl));
+        leaves = λ l ls p d k. let z = none_there l ls d in absurd cc;
+        stays = λ z. e.1;
+      }
         where
           at_lines : (ls : Lines) → lines_of s ≡ ls → placed_in (lines_of s) ≡ none
           at_lines (left t) d = rw d
@@ -215,8 +219,9 @@ module _ (n : ℕ) (s : List ℕ) where
           record {
             yields = sym (ap (λ (q : FormRead). q.form) y) ∙ rw (ls, k, placed_form);
             leaves = λ m ms q d j. let z : ms ≡ lines_of rest = cc in z ∙ ap (λ (x : FormRead). lines_of x.rest) y;
+            stays = λ z. let w : placed_in (lines_of s) ≡ some p = rw ls k in absurd cc;
           }
 
-  pub cell_is : (o : Std.Option LineRead) (x r : LineRead) → Given (front_cell s) read_of o → x.form ≡ not_due n → r ≡ unwrap_or o x → CellIs n s r.form r.rest.now
+  pub cell_is : (o : Std.Option LineRead) (x r : LineRead) → Given (front_cell s) read_of o → (x.form ≡ not_due n) × (x.rest.now ≡ s) → r ≡ unwrap_or o x → CellIs n s r.form r.rest.now
   cell_is None x r h e u = rw u (refused_is x h e)
   cell_is (Some q) x r h e u = rw u (read_is q h)

@@ -168,14 +168,14 @@ module _ (t : Template) (n : ℕ) (s : List ℕ) (a : apart t ≡ true) where
 
 -- A reader that answers what it read, or the refusal, keeps the promise of a line.
 module _ (t : Template) (f : List ℕ → Form) (n : ℕ) (s : List ℕ) (a : apart t ≡ true) where
-  refused_is : (r : LineRead) → front_form t f s ≡ none → r.form ≡ not_due n → LineIs t f n s r.form r.rest.now
+  refused_is : (r : LineRead) → front_form t f s ≡ none → (r.form ≡ not_due n) × (r.rest.now ≡ s) → LineIs t f n s r.form r.rest.now
   unfolding front_form form_of not_due fault_of faults
   refused_is r h e = by (front t s) refl
     where
       by : (o : Option Front) → front t s ≡ o → LineIs t f n s r.form r.rest.now
       by none k =
           let d = front_refused t n s a k in
-          record { yields = e ∙ ap (form_of f) (sym d); leaves = λ o z. absurd cc }
+          record { yields = e.0 ∙ ap (form_of f) (sym d); leaves = λ o z. absurd cc; stays = λ k l z. e.1 }
       by (some x) k = let z : ◌≡◌ {A = Option FormRead} (some (record { form = f x.vals; rest = x.rest })) none = rw k at h in absurd cc
 
   read_is : (r : LineRead) → front_form t f s ≡ some (read_of r) → LineIs t f n s r.form r.rest.now
@@ -193,12 +193,13 @@ module _ (t : Template) (f : List ℕ → Form) (n : ℕ) (s : List ℕ) (a : ap
             leaves = λ o e.
                 let w : o ≡ record { vals = x.vals; later = lines_of x.rest } = cc in
                 ap (λ (q : Taken). q.later) w ∙ ap (λ (q : FormRead). lines_of q.rest) y;
+            stays = λ k l z. absurd cc;
           }
 
   pub line_is :
       (o : Std.Option LineRead) (x r : LineRead)
       → Given (front_form t f s) read_of o
-      → x.form ≡ not_due n
+      → (x.form ≡ not_due n) × (x.rest.now ≡ s)
       → r ≡ unwrap_or o x
       → LineIs t f n s r.form r.rest.now
   line_is None x r h e u = rw u (refused_is x h e)

@@ -1,7 +1,7 @@
 -- What the last line says: it is not `(end)`, bytes follow it, or it ends the text.
 use Prim.Native.Nat.{ℕ, ◌+◌}
 use mathlib.Core.Path.{◌≡◌, refl}
-use mathlib.Core.Bool.{Bool, true, false}
+use mathlib.Core.Bool.{true, false}
 use mathlib.Core.List.{List, [], ◌∷◌}
 use lib.ListN.{length}
 use lib.Dec.{eqb}
@@ -10,10 +10,11 @@ use Rattle.common.specs.declared.Fault.TheVariants as fault
 use Rattle.common.specs.declared.Refusal.{Refusal}
 use Rattle.common.specs.Fault.{fault_of, faults, handed, Goes}
 use Rattle.common.specs.Outcome.{Outcome, done, refused, ◌then◌, ◌when◌, lowest, unless}
+use Rattle.common.proofs.Outcome.{unless_then, then_then}
 use Rattle.figures.specs.Line.{Lines, lines_of, follows}
 use Rattle.figures.proofs.Ends.{follows_is}
 use Rattle.forms.specs.declared.Form.{Form}
-use Rattle.forms.specs.Due.{Taken, due, last_line}
+use Rattle.forms.specs.Due.{due, last_line}
 use Rattle.forms.specs.Forms.{end_form}
 use Rattle.forms.specs.Read.{refusal_in}
 use Rattle.forms.proofs.Told.{IsDue, IsNotDue}
@@ -34,27 +35,14 @@ module _ (n : ℕ) (s : List ℕ) where
 
 -- the same of a reading that ends with that line and hands on what it has read
 module _ {A : Type 0} (a : A) (n : ℕ) (ls : Lines) where
-  abbrev Ends : Outcome A
-  Ends = due end_form n ls then λ e. unless (lowest ((10 when follows e.later) ∷ [])) (n + 1) (done a)
+  abbrev LastRead : Outcome A
+  LastRead = due end_form n ls then λ e. unless (lowest ((10 when follows e.later) ∷ [])) (n + 1) (done a)
 
-  pub last_hands : Ends ≡ last_line n ls then λ o. done a
-  unfolding last_line ◌then◌ lowest unless
-  last_hands = by (due end_form n ls)
-    where
-      by :
-          (o : Outcome Taken)
-          → o then (λ e. unless (lowest ((10 when follows e.later) ∷ [])) (n + 1) (done a))
-          ≡ (o then (λ e. unless (lowest ((10 when follows e.later) ∷ [])) (n + 1) (done (tt {0})))) then λ z. done a
-      by (refused k l) = refl
-      by (done e) = by_more (follows e.later)
-        where
-          by_more :
-              (b : Bool)
-              → unless (lowest ((10 when b) ∷ [])) (n + 1) (done a) ≡ (unless (lowest ((10 when b) ∷ [])) (n + 1) (done (tt {0}))) then λ z. done a
-          by_more true = refl
-          by_more false = refl
+  pub last_hands : LastRead ≡ last_line n ls then λ o. done a
+  unfolding last_line ◌then◌
+  last_hands = then_then _ (due end_form n ls) _ _ (λ e. unless_then _ _ (n + 1) _ _ refl)
 
-  pub last_goes : (r : Result (Unit {0}) Refusal) → r ≡ handed (λ o. o) (last_line n ls) → Goes Ends r (λ o. done a)
+  pub last_goes : (r : Result (Unit {0}) Refusal) → r ≡ handed (λ o. o) (last_line n ls) → Goes LastRead r (λ o. done a)
   unfolding handed ◌then◌
   last_goes r e = rw (e, last_hands) (by (last_line n ls))
     where

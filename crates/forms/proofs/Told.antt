@@ -1,15 +1,12 @@
 -- What a reader that was handed a form knows of the line due, and of the lines after it.
-use Prim.Native.Nat.{ℕ, ◌<◌}
+use Prim.Native.Nat.{ℕ}
 use mathlib.Core.Path.{◌≡◌, refl, sym, ap, ◌∙◌}
 use mathlib.Core.Option.{Option, some, none}
-use mathlib.Core.List.{List, [], ◌∷◌, ◌++◌}
-use native.Mathlib.Omega.{arith}
-use lib.ListN.{length, length-append}
+use mathlib.Core.List.{List, [], ◌∷◌}
 use Rattle.common.specs.declared.Fault.TheVariants as fault
 use Rattle.common.specs.Fault.{fault_of, faults}
 use Rattle.common.specs.Outcome.{done, refused}
 use Rattle.figures.specs.Line.{Lines, left, ◌⏎◌, lines_of}
-use Rattle.figures.proofs.Line.{text_of, text_lines}
 use Rattle.forms.specs.declared.Form.{Form}
 use Rattle.forms.specs.declared.Form.TheVariants as form
 use Rattle.forms.specs.declared.JobForm.{JobForm}
@@ -22,19 +19,11 @@ use Rattle.forms.specs.Due.{Taken, due}
 use Rattle.forms.specs.Form.{Placed, placed, job_from, one_from, node_from, out_from, end_from, size_from, not_due}
 use Rattle.forms.specs.Forms.{job_form, one_form, node_form, out_form, end_form, crossbar_form}
 use Rattle.forms.specs.Read.{form_of, LineIs, placed_in, placed_form, CellIs, capped_cell, refusal_in}
-use Rattle.forms.proofs.Template.{FitsTemplate, due-line, due_fits, job_values, one_values, node_values, out_values, end_values, crossbar-values}
+use Rattle.forms.proofs.Template.{FitsTemplate, due_fits, job_values, one_values, node_values, out_values, end_values, crossbar-values}
 
 -- the line due has the values vs, and the lines after it are those of rest
 abbrev pub IsDue : Template → ℕ → List ℕ → List ℕ → List ℕ → Type 0
 IsDue t n s vs rest = due t n (lines_of s) ≡ done (record { vals = vs; later = lines_of rest })
-
--- the text begins with that line, so what is left is shorter
-pub due_shorter : (t : Template) (n : ℕ) (s vs rest : List ℕ) → IsDue t n s vs rest → length rest < length s
-unfolding text_of
-due_shorter t n s vs rest d =
-    let m = due-line t n (lines_of s) _ d in
-    let k : s ≡ m.0 ++ (10 ∷ rest) = sym (text_lines s) ∙ ap text_of m.1 ∙ ap (λ r. m.0 ++ (10 ∷ r)) (text_lines rest) in
-    omega (arith, simp length-append at (ap length k))
 
 -- the line is not the form due, and a form g holds the refusal
 abbrev pub IsNotDue : Template → ℕ → List ℕ → Form → Type 0
@@ -87,7 +76,7 @@ module _ {t : Template} {f : List ℕ → Form} {n : ℕ} {s rest : List ℕ} {g
 module _ {n : ℕ} {s rest : List ℕ} {g : Form} where
   pub job_due : {f : JobForm} → LineIs job_form job_from n s g rest → g ≡ form.Job f → IsDue job_form n s (f.switches ∷ f.nodes ∷ f.outputs ∷ []) rest
   unfolding job_from not_due
-  job_due is e = told_due is _ (λ z. absurd cc) (λ us fits y. let k = (job_values us fits).0 in let q = sym e ∙ y in cc)
+  job_due is e = told_due is _ (λ z. absurd cc) (λ us fits y. let k = job_values us fits in let q = sym e ∙ y in cc)
 
   pub job_not : LineIs job_form job_from n s g rest → ((f : JobForm) → g ≡ form.Job f → ⊥) → IsNotDue job_form n s g
   unfolding job_from
@@ -95,7 +84,7 @@ module _ {n : ℕ} {s rest : List ℕ} {g : Form} where
 
   pub one_due : {t : ℕ} → LineIs one_form one_from n s g rest → g ≡ form.One t → IsDue one_form n s (t ∷ []) rest
   unfolding one_from not_due
-  one_due is e = told_due is _ (λ z. absurd cc) (λ us fits y. let k = (one_values us fits).0 in let q = sym e ∙ y in cc)
+  one_due is e = told_due is _ (λ z. absurd cc) (λ us fits y. let k = one_values us fits in let q = sym e ∙ y in cc)
 
   pub one_not : LineIs one_form one_from n s g rest → ((t : ℕ) → g ≡ form.One t → ⊥) → IsNotDue one_form n s g
   unfolding one_from
@@ -103,7 +92,7 @@ module _ {n : ℕ} {s rest : List ℕ} {g : Form} where
 
   pub node_due : {f : NodeForm} → LineIs node_form node_from n s g rest → g ≡ form.Node f → IsDue node_form n s (f.id ∷ f.x ∷ f.l ∷ f.h ∷ f.t ∷ []) rest
   unfolding node_from not_due
-  node_due is e = told_due is _ (λ z. absurd cc) (λ us fits y. let k = (node_values us fits).0 in let q = sym e ∙ y in cc)
+  node_due is e = told_due is _ (λ z. absurd cc) (λ us fits y. let k = node_values us fits in let q = sym e ∙ y in cc)
 
   pub node_not : LineIs node_form node_from n s g rest → ((f : NodeForm) → g ≡ form.Node f → ⊥) → IsNotDue node_form n s g
   unfolding node_from
@@ -111,7 +100,7 @@ module _ {n : ℕ} {s rest : List ℕ} {g : Form} where
 
   pub out_due : {f : OutForm} → LineIs out_form out_from n s g rest → g ≡ form.Out f → IsDue out_form n s (f.number ∷ f.target ∷ []) rest
   unfolding out_from not_due
-  out_due is e = told_due is _ (λ z. absurd cc) (λ us fits y. let k = (out_values us fits).0 in let q = sym e ∙ y in cc)
+  out_due is e = told_due is _ (λ z. absurd cc) (λ us fits y. let k = out_values us fits in let q = sym e ∙ y in cc)
 
   pub out_not : LineIs out_form out_from n s g rest → ((f : OutForm) → g ≡ form.Out f → ⊥) → IsNotDue out_form n s g
   unfolding out_from
@@ -127,7 +116,7 @@ module _ {n : ℕ} {s rest : List ℕ} {g : Form} where
 
   pub size_due : {f : SizeForm} → LineIs crossbar_form size_from n s g rest → g ≡ form.Size f → IsDue crossbar_form n s (f.rows ∷ f.columns ∷ f.switches ∷ f.outputs ∷ []) rest
   unfolding size_from not_due
-  size_due is e = told_due is _ (λ z. absurd cc) (λ us fits y. let k = (crossbar-values us fits).0 in let q = sym e ∙ y in cc)
+  size_due is e = told_due is _ (λ z. absurd cc) (λ us fits y. let k = crossbar-values us fits in let q = sym e ∙ y in cc)
 
   pub size_not : LineIs crossbar_form size_from n s g rest → ((f : SizeForm) → g ≡ form.Size f → ⊥) → IsNotDue crossbar_form n s g
   unfolding size_from

@@ -51,10 +51,11 @@ form_of f (done o) = f o.vals
 form_of f (refused k l) = form.Refused (record { fault = fault_of k; line = l })
 
 -- A text whose first line, number n, was read by a template t, f being the form of its values: the form g that the line yields, and what is
--- left of the text after a line that is the one due.
+-- left of the text after a line that is the one due. A line that is refused stays: what is left is the text itself.
 pub record LineIs (t : Template) (f : List ℕ → Form) (n : ℕ) (s : List ℕ) (g : Form) (rest : List ℕ) : Type 0 where
   pub yields : g ≡ form_of f (due t n (lines_of s))
   pub leaves : (o : Taken) → due t n (lines_of s) ≡ done o → o.later ≡ lines_of rest
+  pub stays : (k l : ℕ) → due t n (lines_of s) ≡ refused k l → rest ≡ s
 
 -- the form that a line yields as a cell line: its cell, or the refusal
 unfoldable pub placed_form : ℕ → Option Placed → Form
@@ -65,6 +66,7 @@ placed_form n (some p) = cell_form p.row p.column (capped_cell p.cell)
 pub record CellIs (n : ℕ) (s : List ℕ) (g : Form) (rest : List ℕ) : Type 0 where
   pub yields : g ≡ placed_form n (placed_in (lines_of s))
   pub leaves : (l : List ℕ) (ls : Lines) (p : Placed) → lines_of s ≡ l ⏎ ls → placed l ≡ some p → ls ≡ lines_of rest
+  pub stays : placed_in (lines_of s) ≡ none → rest ≡ s
 
 -- What the functions behind them read at the front of a text, which goes on after the line.
 

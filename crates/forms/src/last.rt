@@ -9,7 +9,7 @@ use common::{Fault, Refusal};
 
 // `(end)`, and nothing after it. Ground 10: "Bytes follow `(end)`; the line is the one after it."
 pub fn last_line(text: &[u8], number: u32) -> Result<(), Refusal>
-    requires { number + 1 < 2 ^ 32 }
+    requires { number < u32.MAX }
     ensures { result ≡ handed (λ o. o) (last_line number (lines_of text.now)) }
 {
     let read = crate::end_line(text, number);

@@ -10,7 +10,7 @@ ghost use Rattle.forms.specs.Form.{job_from, one_from, node_from, out_from, end_
 ghost use Rattle.forms.specs.Forms.{job_form, one_form, node_form, out_form, end_form, crossbar_form};
 ghost use Rattle.forms.specs.Read.{LineIs, CellIs, refusal_in};
 
-use cells::Cell;
+use cells::{Cell, Crossbar};
 use common::{Fault, Refusal};
 use read::{read_cell, read_end, read_job, read_node, read_one, read_out, read_size};
 
@@ -48,6 +48,20 @@ pub struct SizeForm {
     pub outputs: u32,
 }
 
+// The sizes of a record, as its listing's first line has them.
+impl From<Crossbar> for SizeForm {
+    ghost from_gives = { λ x f. f ≡ record { rows = x.rows; columns = x.columns; switches = x.switches; outputs = x.outputs } };
+
+    fn from(x: Crossbar) -> SizeForm {
+        SizeForm {
+            rows: u32::from(x.rows),
+            columns: u32::from(x.columns),
+            switches: u32::from(x.switches),
+            outputs: u32::from(x.outputs),
+        }
+    }
+}
+
 // `(cell r c (on))`, `(cell r c (yes x))` or `(cell r c (no x))`.
 #[derive(Clone, Copy)]
 pub struct CellForm {
@@ -69,8 +83,8 @@ pub enum Form {
     Refused(Refusal),
 }
 
-// A line read as the form that is due, number `number` of its text: the form, or the refusal with ground 1; and what follows the line in the
-// text, which nobody asks for where the line is refused.
+// A line read as the form that is due, number `number` of its text: the form, and what follows the line in the text; or the refusal with
+// ground 1, and the text itself.
 #[derive(Clone, Copy)]
 pub struct LineRead<'a> {
     pub form: Form,

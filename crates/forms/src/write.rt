@@ -15,7 +15,8 @@ use crate::SizeForm;
 use figures::{figure_length, write_figure};
 
 // A text that is written into a buffer from its start on: the buffer, and how many bytes are written. What is to be written next and does
-// not fit is refused by None. The row and the column of a cell's line stand side by side, as in document 01's `(cell r c ..)`.
+// not fit is refused by None. It is no slice of what is left: the count is what a call answers. A cell's row and column are two parameters: the three
+// lines of a cell promise a form each, and a `CellForm` may hold an off cell, which has no line.
 #[derive(Drop)]
 pub struct Writer<'a> {
     out: &'a mut [u8],

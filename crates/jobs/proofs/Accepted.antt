@@ -1,20 +1,21 @@
 -- What the reader accepts: a diagram that is valid line by line, so the facts of its nodes and outputs, and its sizes.
 use Prim.Native.Nat.{ℕ, zero, suc, ◌+◌, ◌≤◌}
-use mathlib.Core.Path.{◌≡◌, refl, sym, ap, ◌∙◌}
+use mathlib.Core.Path.{◌≡◌, refl, sym, ap, subst, ◌∙◌}
 use mathlib.Core.Bool.{not, ◌&&◌}
 use mathlib.Core.List.{List, []}
 use native.Mathlib.Omega.{arith}
 use lib.ListN.{length, get_or, length-append}
 use lib.Dec.{leb, ltb}
 use borrow.Author.Tests.{leb-true, ltb-false, not-false}
+use Rattle.std.proofs.lemmas.Bool.{or_parts}
 use Rattle.common.specs.Limits.{max_rows, max_columns, max_switches, max_nodes, max_outputs}
 use Rattle.common.specs.Outcome.{Outcome, done, refused}
-use Rattle.common.proofs.Lists.{and_left, and_right, or-none}
+use Rattle.common.proofs.Lists.{and_left, and_right}
 use Rattle.common.proofs.Outcome.{then_done, unless_done, not_met}
 use Rattle.figures.specs.Line.{Lines, lines_of}
 use Rattle.forms.specs.Due.{Taken, due}
 use Rattle.forms.specs.Forms.{job_form, one_form, node_form, out_form, end_form}
-use Rattle.forms.proofs.Template.{due_fits, node_values, one_values}
+use Rattle.forms.proofs.Template.{FitsTemplate, due_fits, node_values, one_values}
 use Rattle.diagram.proofs.Valid.{Valid, valid_bare, valid_node, valid_out, valid_facts}
 use Rattle.diagram.specs.Diagram.{Diagram, bare, with_node, with_out}
 use Rattle.diagram.specs.Faults.{head_fault}
@@ -68,11 +69,18 @@ read_outs_lem (suc k) d n ls t v h =
 
 -- a label of a line is 1, 2 or 3
 pub node_label : (n : ℕ) (ls : Lines) (o : Taken) → due node_form n ls ≡ done o → (1 ≤ (node_of o.vals).t) × ((node_of o.vals).t ≤ 3)
-unfolding node_of
-node_label n ls o h = let v = node_values o.vals (due_fits node_form n ls o h) in (v.5, v.6)
+unfolding node_of FitsTemplate node_form
+node_label n ls o h =
+    let f = due_fits node_form n ls o h in
+    let bounds = subst (FitsTemplate node_form) (node_values o.vals f) f in
+    let label = bounds.1.1.1.1 in (label.0, label.1)
 
 pub one_label : (n : ℕ) (ls : Lines) (o : Taken) → due one_form n ls ≡ done o → (1 ≤ get_or o.vals 0 0) × (get_or o.vals 0 0 ≤ 3)
-one_label n ls o h = let v = one_values o.vals (due_fits one_form n ls o h) in (v.1, v.2)
+unfolding FitsTemplate one_form
+one_label n ls o h =
+    let f = due_fits one_form n ls o h in
+    let bounds = subst (FitsTemplate one_form) (one_values o.vals f) f in
+    (bounds.0, bounds.1)
 
 read_nodes_lem :
     (m k : ℕ) (d : Diagram) (n : ℕ) (ls : Lines) (t : ReadText)
@@ -170,7 +178,7 @@ accepted_job s d h =
     let kept = unless_done _ taken.0.last _ d taken.2 in
     let e = taken.0.diagram in
     let small =
-    or-none (ltb max_rows (row_count e)) (ltb max_columns (column_count e)) (not_met 10 (too_large e) [] kept.0) in
+    or_parts (ltb max_rows (row_count e)) (ltb max_columns (column_count e)) (not_met 10 (too_large e) [] kept.0) in
     let same : taken.0.diagram ≡ d = cc in
     rw (← same)
     (record {

@@ -7,9 +7,10 @@ use native.Mathlib.Nat.{mul-le-mul}
 use lib.ListN.{get_or}
 use lib.Dec.{ltb}
 use borrow.Author.Tests.{ltb-false}
+use Rattle.std.proofs.lemmas.Bool.{or_parts}
 use Rattle.common.specs.Limits.{max_rows, max_columns}
 use Rattle.common.specs.Outcome.{Outcome, most_number}
-use Rattle.common.proofs.Lists.{or-none, bit_most}
+use Rattle.common.proofs.Lists.{bit_most}
 use Rattle.common.proofs.Outcome.{not_met}
 use Rattle.common.proofs.Within.{EndsWithin, ends_done, then_ends, unless_ends, within, most_line}
 use Rattle.figures.specs.Line.{Lines, lines_of}
@@ -81,7 +82,7 @@ accepted_ends s =
     (λ z.
     let r = row_count t.diagram in
     let c = column_count t.diagram in
-    let small = or-none (ltb max_rows r) (ltb max_columns c) (not_met 10 (too_large t.diagram) [] z) in
+    let small = or_parts (ltb max_rows r) (ltb max_columns c) (not_met 10 (too_large t.diagram) [] z) in
     ends_done (mul-le-mul (ltb-false max_rows r small.0) (ltb-false max_columns c small.1))))
 
 -- walk's value

@@ -3,7 +3,7 @@ use Prim.Native.Nat.{ℕ, suc, ◌+◌, ◌-◌, ◌≤◌, ◌<◌}
 use mathlib.Core.Path.{◌≡◌, ap, ◌∙◌}
 use mathlib.Core.List.{List, [], ◌∷◌, ◌++◌}
 use native.Mathlib.Omega.{arith}
-use lib.ListN.{length, set, take}
+use lib.ListN.{length, set, take, length-replicate, length-set}
 use lib.Dec.{eqb, ltb}
 use borrow.Author.Tests.{ltb-true, eqb-true, not-false}
 use mathlib.Core.Bool.{◌&&◌}
@@ -19,13 +19,14 @@ use Rattle.common.proofs.Lists.{and_left, and_right}
 use Rattle.common.proofs.Outcome.{not_met, others, unless_none}
 use Rattle.diagram.specs.declared.Node.{Node}
 use Rattle.diagram.specs.Diagram.{Diagram, id_count, bare, with_node, with_out}
-use Rattle.diagram.specs.Faults.{node_fault, out_fault}
+use Rattle.diagram.specs.Faults.{node_fault}
 use Rattle.common.proofs.Faults.{handed_failed, tested_passed}
 use Rattle.figures.specs.Line.{Lines, lines_of}
 use Rattle.diagram.specs.declared.Diagram.{Diagram as Holder}
 use Rattle.diagram.specs.declared.seen.Seen.{Seen}
 use Rattle.diagram.specs.Held.{held}
-use Rattle.diagram.specs.Seen.{Marked}
+use Rattle.diagram.specs.Seen.{Marked, max_seen, no_marks, with_mark}
+use Rattle.diagram.proofs.SeenLaws.{marked_more}
 use Rattle.jobs.specs.Steps.{given}
 use Rattle.jobs.specs.Reading.{ReadText, read_nodes, read_outs, read_end}
 use Rattle.forms.specs.Template.{Template}
@@ -36,10 +37,10 @@ use Rattle.forms.proofs.Told.{IsDue, IsNotDue}
 
 -- the line due, number n, then a test of it, then what follows
 module _ {A : Type 0} (t : Template) (n : ℕ) (s : List ℕ) (ground : Taken → ℕ) (go : Taken → Outcome A) where
-  abbrev Whole : Outcome A
-  Whole = due t n (lines_of s) then λ o. unless (ground o) n (go o)
+  abbrev LineStep : Outcome A
+  LineStep = due t n (lines_of s) then λ o. unless (ground o) n (go o)
 
-  pub line_not : (g : Form) {q : Refusal} → IsNotDue t n s g → q ≡ refusal_in n g → handed (λ a. a) Whole ≡ Err q
+  pub line_not : (g : Form) {q : Refusal} → IsNotDue t n s g → q ≡ refusal_in n g → handed (λ a. a) LineStep ≡ Err q
   unfolding ◌then◌ handed fault_of faults
   line_not g is e = rw (is.0, e, is.1)
 
@@ -52,12 +53,12 @@ module _ {A : Type 0} (t : Template) (n : ℕ) (s : List ℕ) (ground : Taken �
         (r : Result (Unit {0}) Fault) (q : Refusal)
         → r ≡ tested (ground o)
         → MatchResult r (λ u. ⊥) (λ x. q ≡ record { fault = x; line = n })
-        → handed (λ a. a) Whole ≡ Err q
+        → handed (λ a. a) LineStep ≡ Err q
     unfolding ◌then◌
     line_stops r q e h = rw is (handed_failed (λ a. a) n (go o) r (ground o) q e h)
 
     -- a test that passes
-    pub line_goes : (r : Result (Unit {0}) Fault) → r ≡ tested (ground o) → IfErr r (λ x. ⊥) → Whole ≡ go o
+    pub line_goes : (r : Result (Unit {0}) Fault) → r ≡ tested (ground o) → IfErr r (λ x. ⊥) → LineStep ≡ go o
     unfolding ◌then◌
     line_goes r e h = rw is (unless_none (ground o) n (go o) (tested_passed r (ground o) e h))
 
@@ -124,59 +125,57 @@ node_below d i n h =
       high = ltb-true n.h i (and_right (ltb n.l i) (ltb n.h i) below);
     }
 
--- an output's line without a fault names an id
-pub out_below : (d : Diagram) (j i : ℕ) → out_fault d j i ≡ 0 → i < id_count d
-unfolding out_fault
-out_below d j i h = let h5 = others 2 _ _ h in ltb-true i (id_count d) (not-false (ltb i (id_count d)) (not_met 4 _ _ h5))
-
 -- ---- the lines of the nodes
 abbrev nodes_from : ℕ → ℕ → ℕ → ℕ → List Node → ℕ → Lines → Outcome ReadText
-nodes_from v one outputs m ns n ls = read_nodes m outputs (given v one ns []) n ls
+nodes_from v one k m ns n ls = read_nodes m k (given v one ns []) n ls
 
--- at node k of N: the reading so far, for any number of outputs, and the marks
-pub record NodesSoFar (v one N n : ℕ) (s : List ℕ) (ns : List Node) (rest : List ℕ) (seen : Seen) (k : ℕ) : Type 0 where
-  pub nodes_read : (outputs : ℕ) → SoFar (nodes_from v one outputs) N n s ns rest k
-  pub marked : Marked seen (take k ns)
+-- at node i of N: the reading so far, and the marks
+pub record NodesSoFar (v one k N n : ℕ) (s : List ℕ) (ns : List Node) (rest : List ℕ) (seen : Seen) (i : ℕ) : Type 0 where
+  pub nodes_read : SoFar (nodes_from v one k) N n s ns rest i
+  pub places : length seen.marks ≡ max_seen
+  pub marked : Marked seen (take i ns)
 
-module _ (v one N n : ℕ) (s : List ℕ) (ns : List Node) (long : length ns ≡ N) where
-  pub nodes_none : (seen : Seen) → Marked seen [] → NodesSoFar v one N n s ns s seen 0
-  nodes_none seen marked = record { nodes_read = λ outputs. so_far_none (nodes_from v one outputs) N n s ns long; marked = marked }
+module _ (v one k N n : ℕ) (s : List ℕ) (ns : List Node) (long : length ns ≡ N) where
+  pub nodes_none : (seen : Seen) → seen ≡ no_marks → Marked seen [] → NodesSoFar v one k N n s ns s seen 0
+  unfolding no_marks max_seen
+  nodes_none seen is none =
+      record { nodes_read = so_far_none (nodes_from v one k) N n s ns long; places = rw (is, length-replicate); marked = none }
 
-  module _ (rest : List ℕ) (seen : Seen) (k : ℕ) (h : NodesSoFar v one N n s ns rest seen k) where
-    -- the reading from the line of node k on
-    abbrev AtNode : ℕ → ℕ → Outcome ReadText
-    AtNode m outputs = read_nodes (suc m) outputs (given v one (take k ns) []) (n + k) (lines_of rest)
+  module _ (rest : List ℕ) (seen : Seen) (i : ℕ) (h : NodesSoFar v one k N n s ns rest seen i) (below : i < N) where
+    -- the reading from the line of node i on
+    abbrev AtNode : Outcome ReadText
+    AtNode = read_nodes (suc (N - suc i)) k (given v one (take i ns) []) (n + i) (lines_of rest)
 
-    pub nodes_stop :
-        k < N
-        → (r : Refusal)
-        → ((m outputs : ℕ) → handed (λ a. a) (AtNode m outputs) ≡ Err r)
-        → (outputs : ℕ)
-        → handed (λ a. a) (read_nodes N outputs (bare v one) n (lines_of s)) ≡ Err r
+    pub nodes_stop : (r : Refusal) → handed (λ a. a) AtNode ≡ Err r → handed (λ a. a) (read_nodes N k (bare v one) n (lines_of s)) ≡ Err r
     unfolding bare
-    nodes_stop below r e outputs =
-        so_far_stops (nodes_from v one outputs) N n s ns long rest k (h.nodes_read outputs) below r (e (N - suc k) outputs)
+    nodes_stop r e = so_far_stops (nodes_from v one k) N n s ns long rest i h.nodes_read below r e
 
     pub nodes_more :
-        k < N
-        → (node : Node) (after : List ℕ)
-        → ((m outputs : ℕ) → AtNode m outputs ≡ read_nodes m outputs (with_node (given v one (take k ns) []) node) (n + k + 1) (lines_of after))
-        → (ns' : List Node) → ns' ≡ set ns k node
-        → (seen' : Seen) → ((earlier : List Node) → Marked seen earlier → Marked seen' (earlier ++ (node ∷ [])))
-        → NodesSoFar v one N n s ns' after seen' (suc k)
-    unfolding with_node
-    nodes_more below node after e ns' put seen' mark =
-        let within : k < length ns = omega (arith, long) in
-        rw put
+        (node : Node) (after : List ℕ)
+        → AtNode ≡ read_nodes (N - suc i) k (with_node (given v one (take i ns) []) node) (n + i + 1) (lines_of after)
+        → (ns' : List Node)
+        → ns' ≡ set ns i node
+        → (seen' : Seen)
+        → seen' ≡ with_mark seen node
+        → NodesSoFar v one k N n s ns' after seen' (suc i)
+    unfolding with_node with_mark
+    nodes_more node after e ns' put seen' mark =
+        let within : i < length ns = omega (arith, long) in
+        rw (put, mark)
         (record {
-          nodes_read = λ outputs.
-              so_far_more (nodes_from v one outputs) N n s ns long rest k (h.nodes_read outputs) below node after (e (N - suc k) outputs);
-          marked = rw (take-suc-set ns k node within) (mark (take k ns) h.marked);
+          nodes_read = so_far_more (nodes_from v one k) N n s ns long rest i h.nodes_read below node after e;
+          places = rw length-set h.places;
+          marked = rw (take-suc-set ns i node within) (marked_more seen (take i ns) node h.places h.marked);
         })
 
-    pub nodes_all : N ≤ k → k ≤ N → (outputs : ℕ) → read_nodes N outputs (bare v one) n (lines_of s) ≡ read_outs outputs (given v one ns []) (n + N) (lines_of rest)
-    unfolding bare read_nodes
-    nodes_all over within outputs = so_far_all (nodes_from v one outputs) N n s ns long rest k (h.nodes_read outputs) over within
+  pub nodes_all :
+      (rest : List ℕ) (seen : Seen) (i : ℕ)
+      → NodesSoFar v one k N n s ns rest seen i
+      → N ≤ i
+      → i ≤ N
+      → read_nodes N k (bare v one) n (lines_of s) ≡ read_outs k (given v one ns []) (n + N) (lines_of rest)
+  unfolding bare read_nodes
+  nodes_all rest seen i h over within = so_far_all (nodes_from v one k) N n s ns long rest i h.nodes_read over within
 
 -- ---- the lines of the outputs
 abbrev outs_from : Holder → ℕ → List ℕ → ℕ → Lines → Outcome ReadText
@@ -191,20 +190,19 @@ module _ (d : Holder) (N n : ℕ) (s outs : List ℕ) (long : length outs ≡ N)
 
   module _ (rest : List ℕ) (j : ℕ) (h : OutsSoFar d N n s outs rest j) where
     -- the reading from the line of output j on
-    abbrev AtOut : ℕ → Outcome ReadText
-    AtOut m = read_outs (suc m) (held d (take j outs)) (n + j) (lines_of rest)
+    abbrev AtOut : Outcome ReadText
+    AtOut = read_outs (suc (N - suc j)) (held d (take j outs)) (n + j) (lines_of rest)
 
-    pub outs_stop :
-        j < N → (r : Refusal) → ((m : ℕ) → handed (λ a. a) (AtOut m) ≡ Err r) → handed (λ a. a) (read_outs N (held d []) n (lines_of s)) ≡ Err r
-    outs_stop below r e = so_far_stops (outs_from d) N n s outs long rest j h below r (e (N - suc j))
+    pub outs_stop : j < N → (r : Refusal) → handed (λ a. a) AtOut ≡ Err r → handed (λ a. a) (read_outs N (held d []) n (lines_of s)) ≡ Err r
+    outs_stop below r e = so_far_stops (outs_from d) N n s outs long rest j h below r e
 
     pub outs_more :
         j < N
         → (target : ℕ) (after : List ℕ)
-        → ((m : ℕ) → AtOut m ≡ read_outs m (with_out (held d (take j outs)) target) (n + j + 1) (lines_of after))
+        → AtOut ≡ read_outs (N - suc j) (with_out (held d (take j outs)) target) (n + j + 1) (lines_of after)
         → OutsSoFar d N n s (set outs j target) after (suc j)
     unfolding held with_out
-    outs_more below target after e = so_far_more (outs_from d) N n s outs long rest j h below target after (e (N - suc j))
+    outs_more below target after e = so_far_more (outs_from d) N n s outs long rest j h below target after e
 
     pub outs_all : N ≤ j → j ≤ N → read_outs N (held d []) n (lines_of s) ≡ read_end (held d outs) (n + N) (lines_of rest)
     unfolding read_outs

@@ -9,11 +9,13 @@ use lib.ListN.{length, get_or, length-append, get_or-append}
 use lib.Seq.{get_or-append-add}
 use lib.Dec.{eqb, leb}
 use borrow.Author.Tests.{lt-ltb, le-leb, eqb-true, eq-eqb, ne_eqb}
+use Rattle.std.proofs.lemmas.Bool.{cases_Bool}
+use Rattle.std.proofs.Math.Bool.{and-false}
 use Rattle.common.specs.Labels.{label_h, label_v, label_b}
 use Rattle.common.specs.Limits.{max_switches, max_nodes, max_outputs}
 use Rattle.common.specs.Lists.{any_of}
 use Rattle.common.specs.Outcome.{done, lowest}
-use Rattle.common.proofs.Lists.{and_left, and_right, by_test, and-false}
+use Rattle.common.proofs.Lists.{and_left, and_right}
 use Rattle.common.proofs.Outcome.{then_is, unless_none}
 use Rattle.figures.specs.Line.{lines_of, follows}
 use Rattle.forms.specs.Template.{line}
@@ -69,7 +71,7 @@ module _ (v t : ℕ) (ns : List Node) (n : Node) (rest : List Node) (os : List �
     -- no earlier node is the same
     new : any_of (same_test n) ns ≡ false
     unfolding entry entries same_test id_count
-    new = any_of_by (same_test n) ns (terminal v 0 0) (λ k below. unlike k below (by_test (same_test n (get_or ns k (terminal v 0 0)))))
+    new = any_of_by (same_test n) ns (terminal v 0 0) (λ k below. unlike k below (cases_Bool (same_test n (get_or ns k (terminal v 0 0)))))
       where
         unlike : (k : ℕ) → k < length ns → (same_test n (get_or ns k (terminal v 0 0)) ≡ true) ⊎ (same_test n (get_or ns k (terminal v 0 0)) ≡ false) → same_test n (get_or ns k (terminal v 0 0)) ≡ false
         unlike k below (inr none) = none

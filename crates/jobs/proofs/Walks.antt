@@ -16,7 +16,9 @@ use Rattle.common.specs.Outcome.{done, ◌then◌, lowest, unless}
 use Rattle.common.proofs.Faults.{handed_on}
 use Rattle.common.proofs.Lists.{get_or-padded, and_right}
 use Rattle.cells.specs.Setting.{is_setting}
+use Rattle.diagram.specs.declared.Diagram.{Diagram as Holder}
 use Rattle.diagram.specs.declared.Node.{Node}
+use Rattle.diagram.specs.Held.{held}
 use Rattle.diagram.specs.Diagram.{Diagram, entry, entries, id_count}
 use Rattle.diagram.specs.Walk.{step, steps, walk_end, walk_value, Falls}
 use Rattle.diagram.specs.Facts.{Facts}
@@ -25,6 +27,7 @@ use Rattle.jobs.specs.declared.Job.{Job}
 use Rattle.jobs.specs.Answer.{job_of}
 use Rattle.jobs.specs.Job.{accepted, walk}
 use Rattle.jobs.specs.Steps.{given}
+use Rattle.jobs.proofs.Read.{Drawn}
 use Rattle.jobs.proofs.Steps.{passed_on}
 
 -- the walk and its steps do not look at the outputs
@@ -56,15 +59,14 @@ walk_refused s setting j r e h q = passed_on r e h ∙ sym (handed_on job_of (λ
 
 -- the job that was read, and its node table
 module _ (s : List ℕ) (job : Job) (ns : List Node) (d : Diagram) (accepts : accepted s ≡ done d) (is : job ≡ job_of d) (front : take job.nodes ns ≡ d.nodes) where
-  abbrev held_job : Diagram
-  held_job = given job.switches job.one (take job.nodes ns) []
+  -- the diagram that the job gives with them
+  module _ (h : Holder) (drawn : Drawn h job ns) where
+    held_is : held h [] ≡ bare_of d
+    unfolding held job_of
+    held_is = rw (drawn.0, drawn.1, drawn.2) (rw (front, is))
 
-  held_is : held_job ≡ bare_of d
-  unfolding job_of
-  held_is = rw (front, is)
-
-  pub walk_falls : Facts d → Falls held_job
-  walk_falls facts = rw held_is (same_falls d (facts_fall d facts))
+    pub walk_falls : Facts d → Falls (held h [])
+    walk_falls facts = rw held_is (same_falls d (facts_fall d facts))
 
   module _ (setting : List ℕ) (j : ℕ) where
     abbrev wrong : Bool
@@ -81,16 +83,20 @@ module _ (s : List ℕ) (job : Job) (ns : List Node) (d : Diagram) (accepts : ac
         let met : not (is_setting d.switches setting && ltb j (length d.outs)) ≡ true = rw wrong_is at h in
         rw accepts (rw met)
 
-    module _ (h : wrong ≡ false) where
+    module _ (passed : wrong ≡ false) where
       pub walk_below : j < job.outputs
-      walk_below = ltb-true j job.outputs (and_right (is_setting job.switches setting) (ltb j job.outputs) (not-false _ h))
+      walk_below = ltb-true j job.outputs (and_right (is_setting job.switches setting) (ltb j job.outputs) (not-false _ passed))
 
       pub walk_found :
-          (value : ℕ) → value ≡ walk_value held_job setting (get_or job.outs j 0) → Ok value ≡ handed (λ v. v) (walk s setting j)
+          (h : Holder)
+          → Drawn h job ns
+          → (value : ℕ)
+          → value ≡ walk_value (held h []) setting (get_or job.outs j 0)
+          → Ok value ≡ handed (λ v. v) (walk s setting j)
       unfolding walk job_of ◌then◌ lowest unless handed
-      walk_found value e =
-          let unmet : not (is_setting d.switches setting && ltb j (length d.outs)) ≡ false = rw wrong_is at h in
+      walk_found h drawn value e =
+          let unmet : not (is_setting d.switches setting && ltb j (length d.outs)) ≡ false = rw wrong_is at passed in
           let within : j < length d.outs = rw is at walk_below in
           let target : get_or job.outs j 0 ≡ get_or d.outs j 0 = rw is (get_or-padded max_outputs d.outs j 0 within) in
-          let v : value ≡ walk_value d setting (get_or d.outs j 0) = e ∙ rw (held_is, target) (same_walk d setting (get_or d.outs j 0)) in
+          let v : value ≡ walk_value d setting (get_or d.outs j 0) = e ∙ rw (held_is h drawn, target) (same_walk d setting (get_or d.outs j 0)) in
           rw accepts (rw unmet (ap Ok v))

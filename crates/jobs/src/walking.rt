@@ -17,7 +17,7 @@ fn is_wrong(job: &Job, setting: &[u8], output: u32) -> bool
     !checks::is_setting(job.switches, setting) || output >= u32::from(job.outputs)
 }
 
-// "Walk gives 11 too." Then ground 13, on no line.
+// "Walk gives 11 too." Then ground 13, on no line. The output's number is cast, since `usize` has no `From<u32>`.
 #[tactic(auto, unfolding(common::specs::Limits::max_nodes, common::specs::Limits::max_outputs))]
 pub fn walk(text: &[u8], setting: &[u8], output: u32) -> Result<u8, Refusal>
     ensures { result ≡ handed (λ v. v) (walk text.now setting.now output) }

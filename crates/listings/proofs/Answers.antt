@@ -1,5 +1,5 @@
 -- What print answers, by case; and a listing in its parts.
-use Prim.Native.Nat.{ℕ, ◌+◌, ◌*◌, ◌≤◌, ◌<◌}
+use Prim.Native.Nat.{ℕ, ◌+◌, ◌≤◌, ◌<◌}
 use mathlib.Core.Path.{◌≡◌, refl, ap, ◌∙◌}
 use mathlib.Core.Bool.{true, false}
 use mathlib.Core.List.{List, [], ◌∷◌, ◌++◌, append_assoc}
@@ -8,11 +8,11 @@ use lib.ListN.{length, take, length-replicate}
 use borrow.Author.Tests.{lt-ltb, le-ltb}
 use Rattle.std.specs.Prelude.{Some, None, Ok, Err}
 use Rattle.common.specs.declared.Fault.TheVariants as fault
-use Rattle.common.specs.Lists.{zeros, padded}
+use Rattle.common.specs.Lists.{zeros}
 use Rattle.common.specs.Outcome.{done, lowest, unless, buffer_of, Answered}
 use Rattle.common.specs.Fault.{fault_of, faults, handed}
-use Rattle.common.proofs.Lists.{drop-zeros}
 use Rattle.figures.specs.Position.{splice}
+use Rattle.figures.proofs.Writing.{splice-zeros}
 use Rattle.cells.specs.declared.Crossbar.{Crossbar}
 use Rattle.cells.specs.Record.{size, sound}
 use Rattle.forms.specs.Template.{line}
@@ -21,18 +21,13 @@ use Rattle.forms.specs.Written.{Written}
 use Rattle.forms.proofs.Parts.{written_fits}
 use Rattle.listings.specs.Listing.{cell_lines, listing, print}
 
--- a text written at the start of zeros
-splice-zeros : (room : ℕ) (w : List ℕ) → splice (zeros room) 0 w ≡ padded room w
-unfolding splice padded
-splice-zeros room w = let e : 0 + length w ≡ length w = omega arith in rw e (ap (λ (l : List ℕ). w ++ l) (drop-zeros (length w) room))
-
 module _ (x : Crossbar) (cells : List ℕ) where
   -- the first line, and the lines of the cells, of the outputs and of the end
   pub listing-parts :
       listing x cells
       ≡ line crossbar_form (x.rows ∷ x.columns ∷ x.switches ∷ x.outputs ∷ [])
-      ++ (cell_lines x.columns 0 (take (x.rows * x.columns) cells) ++ (out_lines 0 (take x.outputs x.outs) ++ line end_form []))
-  unfolding listing size
+      ++ (cell_lines x.columns 0 (take (size x) cells) ++ (out_lines 0 (take x.outputs x.outs) ++ line end_form []))
+  unfolding listing
   listing-parts = simp append_assoc
 
   module _ (room : ℕ) where

@@ -6,7 +6,6 @@ use mathlib.Core.Bool.{true}
 use mathlib.Core.Option.{Option, some, none}
 use mathlib.Core.List.{List, [], ◌∷◌, ◌++◌, append_assoc}
 use native.Mathlib.Omega.{arith}
-use native.Mathlib.Nat.{mul-add-div_right, mul-add-mod_self_right, div-eq_of_lt, mod-eq_of_lt}
 use lib.ListN.{length, get_or}
 use borrow.Author.Tests.{lt-ltb, ltb-true}
 use Rattle.common.specs.Lists.{zeros}
@@ -39,16 +38,6 @@ pub cell_lines_zeros : (n p m : ℕ) → cell_lines n p (zeros m) ≡ []
 unfolding cell_lines cell_line cell_of
 cell_lines_zeros n p zero = refl
 cell_lines_zeros n p (suc m) = cell_lines_zeros n (suc p) m
-
--- the row and the column of a place
-pub place_row : (r c n : ℕ) → c < n → (r * n + c) / n ≡ r
-place_row r c n h =
-    let positive : 0 < n = omega arith in
-    let z : c / n ≡ 0 = div-eq_of_lt h in
-    mul-add-div_right positive r c ∙ rw z (omega arith)
-
-pub place_column : (r c n : ℕ) → c < n → (r * n + c) % n ≡ c
-place_column r c n h = mul-add-mod_self_right r n c ∙ mod-eq_of_lt h
 
 -- a cell line up to its column, and then other items
 abbrev cell_form : Template → Template
@@ -213,15 +202,15 @@ cell_written_by :
 unfolding placed cell_line
 cell_written_by l p (some vs) b c ea eb ec h =
     same_line (record { row = get_or vs 0 0; column = get_or vs 1 0; cell = On }) p (l ++ (10 ∷ [])) (rw (ea, placed) at h)
-    (line-values on_form l vs _ ea (λ (f : FitsTemplate on_form vs). (on_values vs f).0))
+    (line-values on_form l vs _ ea (on_values vs))
 cell_written_by l p none (some vs) c ea eb ec h =
     same_line (record { row = get_or vs 0 0; column = get_or vs 1 0; cell = Yes (get_or vs 2 0) }) p (l ++ (10 ∷ []))
     (rw (ea, eb, placed) at h)
-    (line-values yes_form l vs _ eb (λ (f : FitsTemplate yes_form vs). (yes_values vs f).0))
+    (line-values yes_form l vs _ eb (yes_values vs))
 cell_written_by l p none none (some vs) ea eb ec h =
     same_line (record { row = get_or vs 0 0; column = get_or vs 1 0; cell = No (get_or vs 2 0) }) p (l ++ (10 ∷ []))
     (rw (ea, eb, ec, placed) at h)
-    (line-values no_form l vs _ ec (λ (f : FitsTemplate no_form vs). (no_values vs f).0))
+    (line-values no_form l vs _ ec (no_values vs))
 cell_written_by l p none none none ea eb ec h =
     let q : none ≡ some p = rw (ea, eb, ec, placed) at h in
     absurd (let z : ◌≡◌ {A = ℕ} 0 1 = cc in omega arith)

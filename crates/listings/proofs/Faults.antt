@@ -2,15 +2,29 @@
 use Prim.Native.Nat.{ℕ, ◌+◌, ◌*◌, ◌≤◌, ◌<◌}
 use mathlib.Core.Path.{◌≡◌, refl}
 use mathlib.Core.Bool.{Bool, not}
-use mathlib.Core.List.{[], ◌∷◌}
-use lib.ListN.{length}
+use mathlib.Core.List.{List, [], ◌∷◌}
+use lib.ListN.{length, length-replicate}
 use borrow.Author.Tests.{lt-ltb, le-ltb, eq-eqb, ne_eqb}
 use Rattle.std.specs.Prelude.{Err}
 use Rattle.common.specs.declared.Fault.TheVariants as fault
 use Rattle.common.specs.Outcome.{◌when◌, lowest}
 use Rattle.common.specs.Fault.{fault_of, faults, tested}
+use Rattle.common.specs.Lists.{zeros}
 use Rattle.forms.specs.Form.{Placed}
+use Rattle.forms.specs.declared.SizeForm.{SizeForm}
 use Rattle.listings.specs.Loading.{Listed, switch_below, cell_fault, out_row_fault}
+use Rattle.listings.specs.Loader.{listed}
+
+-- of the cells and of the output rows before a line the tests ask only how many they are
+pub cell_counted :
+    (f : SizeForm) (codes : List ℕ) (count : ℕ) (p : Placed) → length codes ≡ count → cell_fault (listed f (zeros count) []) p ≡ cell_fault (listed f codes []) p
+unfolding cell_fault
+cell_counted f codes count p h = rw (length-replicate {A = ℕ} count 0, h)
+
+pub row_counted :
+    (f : SizeForm) (outs : List ℕ) (i j r : ℕ) → length outs ≡ i → out_row_fault (listed f [] (zeros i)) j r ≡ out_row_fault (listed f [] outs) j r
+unfolding out_row_fault
+row_counted f outs i j r h = rw (length-replicate {A = ℕ} i 0, h)
 
 -- a ground that is met
 pub out_of_place : (k : ℕ) → k ≡ 12 → Err fault.Misplaced ≡ tested k

@@ -7,19 +7,16 @@ use mathlib.Core.List.{List, [], ◌∷◌, ◌++◌, append_assoc, append-nil}
 use native.Mathlib.Omega.{arith}
 use lib.ListN.{length, take, set, length-append, length-replicate, replicate-append-replicate}
 use lib.Seq.{length-take-le, take_all, take-append-le, take-set-lt, set_at, set_out, append_snoc}
+use Rattle.std.proofs.lemmas.Bool.{cases_lt}
+use Rattle.std.proofs.lemmas.List.{take-replicate}
 use Rattle.common.specs.Lists.{zeros, padded}
-use Rattle.common.proofs.Lists.{below_or_not, length-padded}
+use Rattle.common.proofs.Lists.{length-padded}
 use Rattle.listings.specs.Loader.{kept}
 
 -- the front of a list with zeros after it does not depend on how many there are, if there are enough
-take-zeros : (n i : ℕ) → n ≤ i → take n (zeros i) ≡ zeros n
-take-zeros zero i h = refl
-take-zeros (suc n) zero h = absurd (omega arith)
-take-zeros (suc n) (suc i) h = ap (λ (l : List ℕ). 0 ∷ l) (take-zeros n i (omega arith))
-
 take-front : (n : ℕ) (s : List ℕ) (i j : ℕ) → n ≤ length s + i → n ≤ length s + j → take n (s ++ zeros i) ≡ take n (s ++ zeros j)
 take-front zero s i j h k = refl
-take-front (suc n) [] i j h k = take-zeros (suc n) i (omega arith) ∙ sym (take-zeros (suc n) j (omega arith))
+take-front (suc n) [] i j h k = take-replicate (suc n) i 0 (omega arith) ∙ sym (take-replicate (suc n) j 0 (omega arith))
 take-front (suc n) (a ∷ s) i j h k = ap (λ (l : List ℕ). a ∷ l) (take-front n s i j (omega arith) (omega arith))
 
 -- one list with zeros after it, in two parts
@@ -33,7 +30,7 @@ length-kept room codes = length-take-le room (codes ++ zeros room) (simp (length
 -- before the first cell the buffer is clear
 pub kept_none : (room : ℕ) → zeros room ≡ kept room []
 unfolding kept
-kept_none room = sym (take-zeros room room (omega arith))
+kept_none room = sym (take-replicate room room 0 (omega arith))
 
 -- a store in a list with zeros after it, past the list
 set-zeros :
@@ -71,7 +68,7 @@ kept_set room codes p a h =
     ∙ sym
     (take-append-le room (padded p codes ++ (a ∷ [])) (zeros room) (omega arith)
     ∙ take-append-le room (padded p codes) (a ∷ []) (omega arith)))
-    (below_or_not p room)
+    (cases_lt p room)
 
 -- with room for n cells, the codes of which are named up to the last that is not off
 pub kept-padded : (room n : ℕ) (codes : List ℕ) → length codes ≤ n → n ≤ room → kept room codes ≡ padded room (padded n codes)
@@ -84,15 +81,6 @@ kept-padded room n codes h k =
     take-front room codes room (room - m) (omega arith) (omega arith)
     ∙ take_all room (codes ++ zeros (room - m)) (omega arith)
     ∙ sym (rw wide (zeros_parts codes (n - m) (room - n) ∙ ap (λ (i : ℕ). codes ++ zeros i) parts))
-
--- an output row stored after those so far
-pub padded-set :
-    (n : ℕ) (s : List ℕ) (p a : ℕ) → length s ≡ p → p < n → set (padded n s) p a ≡ padded n (s ++ (a ∷ []))
-unfolding padded
-padded-set n s p a e h =
-    let more : length (s ++ (a ∷ [])) ≡ suc p = simp length-append (omega arith) in
-    let gap : n - length s ≡ suc (n - suc p) = omega arith in
-    rw (gap, more) (set_at s 0 (zeros (n - suc p)) a p e ∙ sym (append_snoc s a (zeros (n - suc p))))
 
 -- padding again changes nothing
 padded_again : (n : ℕ) (s : List ℕ) → padded n (padded n s) ≡ padded n s

@@ -9,9 +9,10 @@ use lib.ListN.{length, take, length-append, length-take}
 use lib.Seq.{length-take-le}
 use lib.Dec.{leb, ltb}
 use borrow.Author.Tests.{leb-true, ltb-true}
+use Rattle.std.proofs.lemmas.Bool.{cases_lt}
 use Rattle.common.specs.Limits.{max_rows, max_columns, max_switches, max_outputs, max_text}
 use Rattle.common.specs.Lists.{all_of}
-use Rattle.common.proofs.Lists.{and_left, and_right, below_or_not}
+use Rattle.common.proofs.Lists.{and_left, and_right}
 use Rattle.figures.specs.Bytes.{bytes}
 use Rattle.figures.specs.Figure.{decimal}
 use Rattle.figures.proofs.Writing.{length_most, length_one, length_two, length_three}
@@ -34,14 +35,14 @@ module _ (n : ℕ) where
       ⊎_elim
       (λ (k : n < 10). omega (arith, length_one n k))
       (λ (k : 10 ≤ n). omega (arith, length_two n k h))
-      (below_or_not n 10)
+      (cases_lt n 10)
 
   pub three_most : n < 1000 → length (decimal n) ≤ 3
   three_most h =
       ⊎_elim
       (λ (k : n < 100). omega (arith, two_most k))
       (λ (k : 100 ≤ n). omega (arith, length_three n k h))
-      (below_or_not n 100)
+      (cases_lt n 100)
 
 -- the bytes of each line
 pub end_most : length (line end_form []) ≤ 6

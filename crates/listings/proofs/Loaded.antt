@@ -5,14 +5,17 @@ use mathlib.Core.Bool.{Bool, true, not, ◌&&◌}
 use mathlib.Core.Option.{Option, some, none}
 use mathlib.Core.List.{List, [], ◌∷◌, ◌++◌, append_assoc, append-nil}
 use native.Mathlib.Omega.{arith}
+use lib.Arith.{digits_lt}
 use lib.ListN.{length, get_or, length-append, length-replicate, take, drop, drop_of_length-le}
 use lib.Dec.{eqb, leb, ltb}
 use lib.Seq.{take_all, drop_at}
 use borrow.Author.Tests.{ltb-true, ltb-false, le-leb, eqb-true, not-true, not-false}
+use Rattle.std.proofs.lemmas.Bool.{and_from}
+use Rattle.std.proofs.lemmas.Nat.{div-mul-add, mod-mul-add}
 use Rattle.common.specs.Lists.{zeros, padded, all_of}
 use Rattle.common.specs.Limits.{max_outputs}
 use Rattle.common.specs.Outcome.{done}
-use Rattle.common.proofs.Lists.{within_grid, and_both, and_left, and_right, length-padded, all_of_append, all_of_zeros, take-padded}
+use Rattle.common.proofs.Lists.{and_left, and_right, length-padded, all_of_append, all_of_zeros, take-padded}
 use Rattle.common.proofs.Outcome.{then_done, unless_done, not_met, others}
 use Rattle.figures.specs.Line.{Lines, left, ◌⏎◌, lines_of, follows}
 use Rattle.figures.proofs.Line.{text_of, follows_none, text_lines}
@@ -28,7 +31,7 @@ use Rattle.forms.proofs.Template.{FitsTemplate, written-values, due-line, out_va
 use Rattle.listings.specs.Listing.{cell_line, cell_lines, listing}
 use Rattle.forms.specs.Form.{Placed, placed}
 use Rattle.listings.specs.Loading.{switch_below, Listed, cell_fault, with_cell, out_row_fault, with_out_row, load_end, load_outs, load_cells, sized, size_fault, load_from, record_of, cells_of, load}
-use Rattle.listings.proofs.Cells.{cell_lines_append, cell_lines_zeros, place_row, place_column, below_code, cell_written}
+use Rattle.listings.proofs.Cells.{cell_lines_append, cell_lines_zeros, below_code, cell_written}
 use Rattle.listings.proofs.Printed.{so_far}
 
 -- a line that was taken: the text is the line of its values and then the text of the later lines
@@ -89,7 +92,7 @@ outs_told (suc k) x n ls y h =
     let d = outs_told k (with_out_row x r) (n + 1) t.0.later y u.1 in
     let g = line_taken out_form n ls t.0 t.1 in
     let longer : length (x.outs ++ (r ∷ [])) ≡ suc (length x.outs) = simp length-append (omega arith) in
-    let shape : t.0.vals ≡ length x.outs ∷ r ∷ [] = (out_values t.0.vals g.1).0 ∙ ap (λ (i : ℕ). i ∷ r ∷ []) f.0 in
+    let shape : t.0.vals ≡ length x.outs ∷ r ∷ [] = out_values t.0.vals g.1 ∙ ap (λ (i : ℕ). i ∷ r ∷ []) f.0 in
     record {
       stands = r ∷ d.stands;
       result = rw (append_assoc x.outs (r ∷ []) d.stands) at d.result;
@@ -98,7 +101,7 @@ outs_told (suc k) x n ls y h =
           ∙ ap (λ (vs : List ℕ). line out_form vs ++ text_of t.0.later) shape
           ∙ ap (λ (s : List ℕ). line out_form (length x.outs ∷ r ∷ []) ++ s) (rw longer at d.text)
           ∙ sym (append_assoc (line out_form (length x.outs ∷ r ∷ [])) (out_lines (suc (length x.outs)) d.stands) (line end_form []));
-      low = and_both (ltb r x.rows) (all_of (λ r. ltb r x.rows) d.stands) f.1 d.low;
+      low = and_from (ltb r x.rows) (all_of (λ r. ltb r x.rows) d.stands) f.1 d.low;
       count = ap suc d.count;
     }
 
@@ -136,7 +139,7 @@ length_added m q x h = simp (length-append, length-replicate) (omega arith)
 -- they have one line
 one_line_lem : (r c n : ℕ) (x : Cell) → c < n → cell_lines n (r * n + c) (code_of x ∷ []) ≡ cell_line r c x
 unfolding cell_lines
-one_line_lem r c n x h = rw (append-nil, place_row r c n h, place_column r c n h, code_cell x)
+one_line_lem r c n x h = rw (append-nil, div-mul-add r n c h, mod-mul-add r n c h, code_cell x)
 
 added_lines :
     (m r c n : ℕ) (x : Cell) (more : List ℕ)
@@ -173,7 +176,7 @@ unfolding all_of
 added_low m q v x h =
     let f : ℕ → Bool = λ k. leb k (1 + 2 * v) in
     all_of_append f (zeros (q - m)) (code_of x ∷ []) (all_of_zeros f (q - m) (le-leb 0 (1 + 2 * v) (omega arith)))
-    (and_both (f (code_of x)) true (le-leb (code_of x) (1 + 2 * v) (below_code v x h)) refl)
+    (and_from (f (code_of x)) true (le-leb (code_of x) (1 + 2 * v) (below_code v x h)) refl)
 
 -- cell lines, output lines and the last line: the codes and the rows, and the text that they write
 pub record CellsTold (x : Listed) (s : List ℕ) (y : Listed) : Type 0 where
@@ -248,7 +251,7 @@ no_cell_told x s y h d =
 pub cell_room : (x : Listed) (p : Placed) → CellFacts x p → length (with_cell x p).codes ≤ (with_cell x p).rows * (with_cell x p).columns
 cell_room x p f =
     let most : suc (p.row * x.columns + p.column) ≤ x.rows * x.columns =
-    within_grid x.rows x.columns p.row p.column f.row_in f.column_in in
+    digits_lt f.row_in f.column_in in
     rw (length_with x p f.later) (unfold with_cell in most)
 
 -- a line that is a cell's or is not
@@ -387,7 +390,7 @@ first_told s n o y e f h =
     let g = line_taken crossbar_form n (lines_of s) o e in
     told_from s (text_of o.later) r c v k y (not-false (in_range r c v k) (not_met 1 (not (in_range r c v k)) [] f))
     (cells_told o.later (so_far r c v k [] []) (n + 1) y h (omega arith))
-    (ap (λ (vs : List ℕ). line crossbar_form vs ++ text_of o.later) (sym (crossbar-values o.vals g.1).0)
+    (ap (λ (vs : List ℕ). line crossbar_form vs ++ text_of o.later) (sym (crossbar-values o.vals g.1))
     ∙ sym g.0
     ∙ text_lines s)
 

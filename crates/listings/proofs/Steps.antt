@@ -9,9 +9,9 @@ use native.Mathlib.Omega.{arith}
 use lib.ListN.{length, length-append}
 use lib.Dec.{ltb, leb}
 use borrow.Author.Tests.{le-ltb, ltb-true, leb-false, le-leb}
+use Rattle.std.proofs.lemmas.Bool.{cases_Bool}
 use Rattle.common.specs.Limits.{max_switches}
 use Rattle.common.specs.Outcome.{Outcome, refused, ◌then◌, unless}
-use Rattle.common.proofs.Lists.{by_test}
 use Rattle.figures.specs.Line.{Lines, left, ◌⏎◌, lines_of}
 use Rattle.figures.proofs.Line.{text_of, text_lines}
 use Rattle.cells.specs.declared.Cell.{Cell}
@@ -25,7 +25,7 @@ use Rattle.forms.specs.Read.{capped_cell, placed_in, CellIs}
 use Rattle.forms.specs.Due.{due}
 use Rattle.forms.proofs.Told.{capped, cell_found, cell_not}
 use Rattle.listings.specs.Loading.{Listed, switch_below, cell_fault, with_cell, load_outs, load_cells}
-use Rattle.listings.specs.declared.sizes.Sizes.{Sizes}
+use Rattle.listings.specs.declared.sizes.ListingSizes.{ListingSizes}
 use Rattle.listings.specs.Loader.{placed_by}
 use Rattle.listings.proofs.Loaded.{cell_facts}
 
@@ -42,7 +42,7 @@ switch_same x v h =
     ⊎_elim (λ (e : leb x 255 ≡ true). rw (e, switch_of))
     (λ (e : leb x 255 ≡ false).
     let large = leb-false x 255 e in rw (e, switch_of, le-ltb 255 v (omega arith), le-ltb x v (omega arith)))
-    (by_test (leb x 255))
+    (cases_Bool (leb x 255))
 
 switch_exact : (x v : ℕ) → v ≤ max_switches → ltb (switch_of x) v ≡ true → switch_of x ≡ x
 unfolding switch_of max_switches
@@ -120,8 +120,8 @@ module _ {n : ℕ} {s rest : List ℕ} {g : Form} (is : CellIs n s g rest) where
       by (l ⏎ ls) p = rw (p, load_cells)
 
 -- the sizes of a listing, as plain facts
-abbrev pub Ranged : Sizes → Type 0
-Ranged s = SizesInRange s.rows s.columns s.switches s.outputs
+abbrev pub Ranged : ListingSizes → Type 0
+Ranged s = SizesInRange s.form.rows s.form.columns s.form.switches s.form.outputs
 
-pub ranged : (s : Sizes) → Ranged s
-ranged s = in_range_lem s.rows s.columns s.switches s.outputs s.ranged
+pub ranged : (s : ListingSizes) → Ranged s
+ranged s = in_range_lem s.form.rows s.form.columns s.form.switches s.form.outputs s.ranged

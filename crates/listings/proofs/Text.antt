@@ -16,15 +16,16 @@ use Rattle.std.specs.Cmp.Lexicographic.{pointwise}
 use Rattle.std.proofs.lemmas.List.{nil_from_length}
 use Rattle.std.proofs.lemmas.Slice.Eq.{slice_eq-Decides}
 use Rattle.std.proofs.lemmas.Bool.Decides.{Decides-eqb}
+use Rattle.std.proofs.lemmas.Bool.{cases_lt}
+use Rattle.std.proofs.lemmas.Nat.{div-mul-add, mod-mul-add}
 use Rattle.common.specs.Lists.{zeros}
-use Rattle.common.proofs.Lists.{below_or_not}
 use Rattle.cells.specs.declared.Cell.{Cell}
 use Rattle.cells.specs.Code.{cell_of}
 use Rattle.forms.specs.Template.{line}
 use Rattle.forms.specs.Forms.{out_form, out_lines}
 use Rattle.listings.specs.Listing.{cell_line, cell_lines}
 use Rattle.listings.specs.Printing.{row_lines}
-use Rattle.listings.proofs.Cells.{cell_lines_append, place_row, place_column}
+use Rattle.listings.proofs.Cells.{cell_lines_append}
 
 -- one output more, and none
 pub out_more :
@@ -144,7 +145,7 @@ unfolding cell_lines row_lines
 row_from n r c [] h = refl
 row_from n r c (k ∷ a) h =
     let next : suc (r * n + c) ≡ r * n + suc c = omega arith in
-    rw (place_row r c n (omega arith), place_column r c n (omega arith), next, row_from n r (suc c) a (omega arith))
+    rw (div-mul-add r n c (omega arith), mod-mul-add r n c (omega arith), next, row_from n r (suc c) a (omega arith))
 
 -- pieces of n cells: k of them are past, xs are the cells that are left of `whole` cells, and m is the size that the iterator has
 pub record Pieces (n whole k : ℕ) (xs : List ℕ) (m : ℕ) : Type 0 where
@@ -187,7 +188,7 @@ module _ {n : ℕ} {xs x ys : List ℕ} (p : Piece n xs x ys) where
       ⊎_elim
       (λ (h : 0 < length ys). ap (λ c. f c ys) (ap (λ m. a + m) (whole_piece h) ∙ e))
       (λ (h : length ys ≤ 0). let z : ys ≡ [] = nil_from_length ys (omega arith) in rw z (none (a + length x) b))
-      (below_or_not 0 (length ys))
+      (cases_lt 0 (length ys))
 
   -- the lines of rows of n cells, from row r on
   pub rows_piece : (r : ℕ) {k k' : ℕ} → r ≡ k → k' ≡ k + 1 → cell_lines n (k * n) xs ≡ row_lines r 0 x ++ cell_lines n (k' * n) ys

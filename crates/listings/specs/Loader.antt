@@ -6,18 +6,14 @@ use Rattle.cells.specs.Record.{in_range}
 use Rattle.forms.specs.declared.SizeForm.{SizeForm}
 use Rattle.forms.specs.declared.CellForm.{CellForm}
 use Rattle.forms.specs.Form.{Placed}
-use Rattle.listings.specs.declared.sizes.Sizes.{Sizes}
 use Rattle.listings.specs.Loading.{Listed, load_outs, load_cells}
 
 -- a listing so far: the sizes of its first line, the codes of the cells up to the last one named, the output rows
-abbrev pub listed : Sizes → List ℕ → List ℕ → Listed
-listed s codes outs =
-    record { rows = s.rows; columns = s.columns; switches = s.switches; outputs = s.outputs; codes = codes; outs = outs }
+abbrev pub listed : SizeForm → List ℕ → List ℕ → Listed
+listed f codes outs =
+    record { rows = f.rows; columns = f.columns; switches = f.switches; outputs = f.outputs; codes = codes; outs = outs }
 
--- its first line, and whether each figure of it is in its range: ground 2 is not met
-abbrev pub first : SizeForm → Listed
-first f = record { rows = f.rows; columns = f.columns; switches = f.switches; outputs = f.outputs; codes = []; outs = [] }
-
+-- whether each figure of its first line is in its range: ground 2 is not met
 abbrev pub sizes_in : SizeForm → Bool
 sizes_in f = in_range f.rows f.columns f.switches f.outputs
 
@@ -30,9 +26,9 @@ unfoldable pub kept : ℕ → List ℕ → List ℕ
 kept room codes = take room (codes ++ zeros room)
 
 -- the cell lines of a text from line n on are read: what is left is `rest`, from line m on, and the buffer holds the codes
-pub record CellsRead (text : List ℕ) (n : ℕ) (s : Sizes) (rest : List ℕ) (m : ℕ) (cells : List ℕ) (room : ℕ) : Type 0 where
+pub record CellsRead (text : List ℕ) (n : ℕ) (f : SizeForm) (rest : List ℕ) (m : ℕ) (cells : List ℕ) (room : ℕ) : Type 0 where
   pub codes : List ℕ
-  pub same : load_cells (listed s [] []) n (lines_of text) ≡ load_outs s.outputs (listed s codes []) m (lines_of rest)
+  pub same : load_cells (listed f [] []) n (lines_of text) ≡ load_outs f.outputs (listed f codes []) m (lines_of rest)
   pub holds : cells ≡ kept room codes
-  pub short : length codes ≤ s.rows * s.columns
+  pub short : length codes ≤ f.rows * f.columns
   pub lines : m ≤ n + length codes

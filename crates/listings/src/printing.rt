@@ -28,7 +28,8 @@ fn write_cell(writer: &mut Writer<'_>, r: u32, c: u32, cell: Cell) -> Option<()>
     }
 }
 
-// The lines of the cells of a row from column c on.
+// The lines of the cells of a row from column c on. That a row is at most 128 wide is a clause of this function and the two below: a part of a row has
+// no type of its own. An `as` in this file is of a number below 128, or of 32 at most, for which `usize` has no `From`.
 fn write_from(writer: &mut Writer<'_>, r: u32, c: u32, cells: &[u8]) -> Option<()>
     requires { c + length cells.now ≤ max_columns }
     ensures { Wrote writer.old writer.new (row_lines r c cells.now) result }
@@ -81,21 +82,15 @@ fn write_lines(writer: &mut Writer<'_>, x: Crossbar, cells: &[u8]) -> Option<()>
     requires { sound x cells.now ≡ true }
     ensures { Wrote writer.old writer.new (listing x cells.now) result }
 {
-    writer.size_line(SizeForm {
-        rows: u32::from(x.rows),
-        columns: u32::from(x.columns),
-        switches: u32::from(x.switches),
-        outputs: u32::from(x.outputs),
-    })?;
-    let columns = usize::from(x.columns);
-    write_cells(writer, columns, &cells[..usize::from(x.rows) * columns])?;
+    writer.size_line(SizeForm::from(x))?;
+    write_cells(writer, usize::from(x.columns), &cells[..x.size()])?;
     let outs = x.outs;
     write_outs(writer, &outs[..usize::from(x.outputs)])?;
     writer.end_line()
 }
 
 // The listing of a crossbar, from the buffer's start on: how long it is. A writer is made, handed to one function and asked for its length here and
-// twice in the programs; one function over a closure would take as many lines at each place.
+// twice in the programs: one function over a closure would ask of each that it writes a text, which would have to be named and shown there.
 #[tactic(auto, using(forms::proofs::Parts::wrote_whole), unfolding(forms::specs::Wrote::past))]
 fn write_listing(out: &mut [u8], x: Crossbar, cells: &[u8]) -> Option<usize>
     requires { sound x cells.now ≡ true }
@@ -106,23 +101,18 @@ fn write_listing(out: &mut [u8], x: Crossbar, cells: &[u8]) -> Option<usize>
     Some(writer.written)
 }
 
-// Record, cells and an output buffer in, text out. Print checks 12, then 14, with line 0.
+// Record, cells and an output buffer in, text out. Print checks 12, then 14, with line 0. The zeros after a refusal are a `fill` of its
+// own (conduction/src/lighting.rt says why).
 pub fn print(x: Crossbar, cells: &[u8], out: &mut [u8]) -> Result<usize, Refusal>
     ensures { Answered (print x cells.now (length out.old)) (handed length) (λ s. s) (length out.old) result out.new }
 {
     out.fill(0);
     if !checks::is_sound(x, cells) {
-        return Err(Refusal {
-            fault: Fault::Misplaced,
-            line: 0,
-        });
+        return Err(Fault::Misplaced.at(0));
     }
     let Some(length) = write_listing(out, x, cells) else {
         out.fill(0);
-        return Err(Refusal {
-            fault: Fault::NoRoom,
-            line: 0,
-        });
+        return Err(Fault::NoRoom.at(0));
     };
     Ok(length)
 }

@@ -1,9 +1,11 @@
-// The sizes of a listing, and the grounds that they decide on its lines.
-ghost use Rattle.std.specs.Prelude.{◌≡◌, ℕ, List, true, false, [], ◌+◌, ◌*◌, ◌<◌, length, MatchResult};
+// The sizes of a listing, and the grounds that they decide on its lines. An `as` here is of a `u32`, for which there is no `From`.
+ghost use Rattle.std.specs.Prelude.{◌≡◌, true, false, [], ◌+◌, ◌*◌, ◌<◌, MatchResult};
 ghost use Rattle.common.specs.declared.Fault.TheVariants as fault;
 ghost use Rattle.common.specs.Fault.{tested};
+ghost use Rattle.common.specs.Lists.{zeros};
 ghost use Rattle.cells.specs.Record.{in_range};
 ghost use Rattle.listings.specs.Loading.{switch_below};
+ghost use Rattle.listings.specs.Loader.{sizes_in};
 
 use cells::{Cell, Crossbar, checks};
 use common::{Fault, MAX_OUTPUTS};
@@ -20,90 +22,85 @@ fn switch_below(v: u32, cell: Cell) -> bool
     }
 }
 
-// The sizes of a listing's first line, each in its range. They are the fields of the form and not the form itself, since definitions speak of a
-// listing so far by these four.
+// The sizes of a listing's first line, each in its range.
 #[derive(Clone, Copy)]
-pub struct Sizes {
-    pub rows: u32,
-    pub columns: u32,
-    pub switches: u32,
-    pub outputs: u32,
-    ghost ranged: { in_range rows columns switches outputs ≡ true },
+pub struct ListingSizes {
+    pub form: SizeForm,
+    ghost ranged: { in_range form.rows form.columns form.switches form.outputs ≡ true },
 }
 
-impl Sizes {
-    ghost use Rattle.listings.specs.Loading.{cell_fault, out_row_fault};
-    ghost use Rattle.listings.specs.Loader.{listed, first, sizes_in, placed_by};
+// Ground 2 on the first line.
+impl TryFrom<SizeForm> for ListingSizes {
+    type Error = Fault;
 
-    // Ground 2 on the first line. It is no `TryFrom`: a conversion would not say which test of the line it is.
-    pub fn of(f: SizeForm) -> Result<Sizes, Fault>
-        ensures { MatchResult result
-            (λ s. (sizes_in f ≡ true) × (listed s [] [] ≡ first f))
-            (λ x. (sizes_in f ≡ false) × (x ≡ fault.OutOfRange)) }
-    {
-        if !checks::in_range(f.rows, f.columns, f.switches, f.outputs) {
+    ghost try_from_gives = { λ f r. MatchResult r (λ s. (s.form ≡ f) × (sizes_in f ≡ true)) (λ x. (sizes_in f ≡ false) × (x ≡ fault.OutOfRange)) };
+
+    fn try_from(form: SizeForm) -> Result<ListingSizes, Fault> {
+        if !checks::in_range(form.rows, form.columns, form.switches, form.outputs) {
             return Err(Fault::OutOfRange);
         }
-        Ok(Sizes {
-            rows: f.rows,
-            columns: f.columns,
-            switches: f.switches,
-            outputs: f.outputs,
-        })
+        Ok(ListingSizes { form })
     }
+}
+
+impl ListingSizes {
+    ghost use Rattle.listings.specs.Loading.{cell_fault, out_row_fault};
+    ghost use Rattle.listings.specs.Loader.{listed, placed_by};
 
     // How many cells there are.
     pub fn cells(self) -> usize
-        ensures { result ≡ self.rows * self.columns }
+        ensures { result ≡ self.form.rows * self.form.columns }
     {
-        (self.rows * self.columns) as usize
+        (self.form.rows * self.form.columns) as usize
     }
 
     // The place of a cell among the cells, row by row.
     pub fn place(self, f: CellForm) -> usize
-        requires { (f.row < self.rows) × (f.column < self.columns) }
-        ensures { result ≡ f.row * self.columns + f.column }
+        requires { (f.row < self.form.rows) × (f.column < self.form.columns) }
+        ensures { result ≡ f.row * self.form.columns + f.column }
     {
-        (f.row * self.columns + f.column) as usize
+        (f.row * self.form.columns + f.column) as usize
     }
 
-    // Ground 12, on a cell line, where the cells before it take up the first `count` places. It asks nothing of their codes.
+    // Ground 12, on a cell line, where the cells before it take up the first `count` places. Their codes are not asked for, and zeros stand for
+    // them.
     pub fn cell_fault(self, count: usize, f: CellForm) -> Result<(), Fault>
-        ensures { (codes : List ℕ) → length codes ≡ count → result ≡ tested (cell_fault (listed self codes []) (placed_by f)) }
+        ensures { result ≡ tested (cell_fault (listed self.form (zeros count) []) (placed_by f)) }
     {
-        if f.row < self.rows
-            && f.column < self.columns
+        if f.row < self.form.rows
+            && f.column < self.form.columns
             && count <= self.place(f)
-            && switch_below(self.switches, f.cell)
+            && switch_below(self.form.switches, f.cell)
         {
             return Ok(());
         }
         Err(Fault::Misplaced)
     }
 
-    // Grounds 3 and 12, on the output line due as number `j`. They ask nothing of the cells, and of the output rows before it only how
-    // many there are.
+    // Grounds 3 and 12, on the output line due as number `j`. The cells and the output rows before it are not asked for, and none and zeros
+    // stand for them.
     pub fn row_fault(self, j: usize, f: OutForm) -> Result<(), Fault>
-        ensures { (codes outs : List ℕ) → length outs ≡ j → result ≡ tested (out_row_fault (listed self codes outs) f.number f.target) }
+        ensures { result ≡ tested (out_row_fault (listed self.form [] (zeros j)) f.number f.target) }
     {
         if f.number as usize != j {
             return Err(Fault::OutOfTurn);
         }
-        if self.rows <= f.target {
+        if self.form.rows <= f.target {
             return Err(Fault::Misplaced);
         }
         Ok(())
     }
 
-    // The record of a crossbar of these sizes.
+    // The record of a crossbar of these sizes. It is no `From`: neither a record nor a pair of sizes and rows is a type of this crate. Fields
+    // of `u16` would be cast in `try_from` instead, and converted wherever a figure of a line meets them.
     pub fn record(self, outs: [u16; MAX_OUTPUTS]) -> Crossbar
-        ensures { result ≡ record { rows = self.rows; columns = self.columns; switches = self.switches; outputs = self.outputs; outs = outs } }
+        ensures { result ≡ record { rows = self.form.rows; columns = self.form.columns; switches = self.form.switches; outputs = self.form.outputs; outs = outs } }
     {
         Crossbar {
-            rows: self.rows as u16,
-            columns: self.columns as u16,
-            switches: self.switches as u16,
-            outputs: self.outputs as u16,
+            rows: self.form.rows as u16,
+            columns: self.form.columns as u16,
+            switches: self.form.switches as u16,
+            outputs: self.form.outputs as u16,
             outs,
         }
     }

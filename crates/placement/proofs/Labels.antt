@@ -6,7 +6,6 @@ use mathlib.Core.Logic.{inl, inr}
 use mathlib.Core.Bool.{true, false, ◌&&◌, ◌||◌}
 use native.Mathlib.Omega.{arith}
 use lib.Dec.{eqb}
-use Rattle.common.proofs.Lists.{true_or_false}
 use Rattle.diagram.specs.Diagram.{Diagram, id_count, entry, entries, terminal, label_at}
 use Rattle.diagram.specs.Faults.{alike}
 use Rattle.diagram.specs.Wires.{has_row, has_column}
@@ -44,15 +43,15 @@ unlike :
     → (eqb t 1 || eqb t 3) && (eqb u 2 || eqb u 3) ≡ false
     → (eqb u 1 || eqb u 3 ≡ true) × (eqb t 2 || eqb t 3 ≡ true)
 unfolding alike
-unlike is_h is_h e f = absurd (true_or_false true refl e)
-unlike is_h is_v e f = absurd (true_or_false true refl f)
-unlike is_h is_b e f = absurd (true_or_false true refl f)
+unlike is_h is_h e f = absurd cc
+unlike is_h is_v e f = absurd cc
+unlike is_h is_b e f = absurd cc
 unlike is_v is_h e f = (refl, refl)
-unlike is_v is_v e f = absurd (true_or_false true refl e)
+unlike is_v is_v e f = absurd cc
 unlike is_v is_b e f = (refl, refl)
 unlike is_b is_h e f = (refl, refl)
-unlike is_b is_v e f = absurd (true_or_false true refl f)
-unlike is_b is_b e f = absurd (true_or_false true refl f)
+unlike is_b is_v e f = absurd cc
+unlike is_b is_b e f = absurd cc
 
 pub id_label : (d : Diagram) → Facts d → (i : ℕ) → 0 < i → i < id_count d → Label (label_at d i)
 unfolding entry entries terminal

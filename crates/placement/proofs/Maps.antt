@@ -28,8 +28,7 @@ use Rattle.diagram.specs.Held.{held, wires_of, WireNumbers}
 use Rattle.jobs.specs.declared.Job.{Job}
 use Rattle.jobs.specs.Answer.{job_of}
 use Rattle.jobs.specs.Job.{accepted}
-use Rattle.jobs.specs.Steps.{given}
-use Rattle.jobs.proofs.Read.{Given}
+use Rattle.jobs.proofs.Read.{JobGiven, Drawn}
 use Rattle.jobs.proofs.Refusals.{accepted_ends}
 use Rattle.jobs.proofs.Steps.{passed_on}
 use Rattle.placement.specs.Placement.{cells, crossbar}
@@ -58,7 +57,7 @@ unfolding held id_count entry entries row_of column_of has_row has_column wires_
 same_numbers h outs w numbers = record { number = numbers.number }
 
 -- the job that was read, and its node table
-module _ (s : List ℕ) (job : Job) (nodes : List Node) (g : Given s job nodes) where
+module _ (s : List ℕ) (job : Job) (nodes : List Node) (g : JobGiven s job nodes) where
   size_is : job.rows * job.columns ≡ size (crossbar g.diagram)
   unfolding job_of size crossbar
   size_is = rw g.is
@@ -75,15 +74,14 @@ module _ (s : List ℕ) (job : Job) (nodes : List Node) (g : Given s job nodes) 
       rw g.accepts (rw (rw (same, size_is) at short) (record { answer = refl; buffer = none }))
 
   -- a plan that is made of them is one of its diagram
-  module _ (p : Inside) (same : p.job.now ≡ job) (drawn : (outs : List ℕ) → held p.diagram outs ≡ given job.switches job.one (take job.nodes nodes) outs) where
+  module _ (p : Inside) (same : p.job.now ≡ job) (drawn : Drawn p.diagram job nodes) where
     outs_are : take job.outputs job.outs ≡ g.diagram.outs
     unfolding job_of
     outs_are = rw g.is (take-padded max_outputs (length g.diagram.outs) g.diagram.outs refl)
 
     planned_is : planned p ≡ g.diagram
-    unfolding planned job_of
-    planned_is =
-        drawn _ ∙ rw (same, outs_are, g.front, g.is)
+    unfolding planned held job_of
+    planned_is = rw (drawn.0, drawn.1, drawn.2) (rw (same, outs_are, g.front, g.is))
 
     pub is_plan : WireNumbers (held p.diagram []) p.wires.now → IsPlan p
     unfolding planned

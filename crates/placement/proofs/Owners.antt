@@ -7,7 +7,9 @@ use mathlib.Core.Bool.{Bool, true, false}
 use mathlib.Core.List.{[], ◌∷◌, ◌++◌}
 use native.Mathlib.Omega.{arith}
 use lib.ListN.{length, get_or, length-append, get_or-append}
-use Rattle.common.proofs.Lists.{by_test, at_or_below, get_or_last}
+use Rattle.std.proofs.lemmas.List.{get_or_push}
+use Rattle.std.proofs.lemmas.Bool.{cases_Bool}
+use Rattle.common.proofs.Lists.{at_or_below}
 use Rattle.diagram.specs.Wires.{owners}
 use Rattle.diagram.proofs.Owners.{owners_more}
 
@@ -34,9 +36,9 @@ pub owner_at : (has : ℕ → Bool) (n i : ℕ) → has i ≡ true → i < n →
 owner_at has zero i h k = absurd (omega arith)
 owner_at has (suc n) i h k =
     elim (at_or_below i n k) [
-      | inl e ↦ rw (← e, grown has i h) (get_or_last (owners has i) i 0 (length (owners has i)) refl)
+      | inl e ↦ rw (← e, grown has i h) (get_or_push (owners has i) i 0 (length (owners has i)) refl)
       | inr below ↦
-          elim (by_test (has n)) [
+          elim (cases_Bool (has n)) [
             | inl last ↦ rw (grown has n last) (get_or-append (owners has n) (n ∷ []) 0 (length (owners has i)) (number_below has n i h below) ∙ owner_at has n i h below)
             | inr none ↦ rw (kept has n none) (owner_at has n i h below)
           ]
@@ -52,12 +54,12 @@ owner : (has : ℕ → Bool) (n r : ℕ) → r < length (owners has n) → Owner
 unfolding owners
 owner has zero r k = absurd (omega arith)
 owner has (suc n) r k =
-    elim (by_test (has n)) [
+    elim (cases_Bool (has n)) [
       | inl last ↦
           rw (grown has n last)
           (elim (at_or_below r (length (owners has n)) (let b = rw (grown has n last, length-append) at k in omega arith)) [
             | inl e ↦
-                rw (get_or_last (owners has n) n 0 r e) (record { holds = last; below = omega arith; numbered = sym e })
+                rw (get_or_push (owners has n) n 0 r (sym e)) (record { holds = last; below = omega arith; numbered = sym e })
             | inr earlier ↦ rw (get_or-append (owners has n) (n ∷ []) 0 r earlier) (longer (owner has n r earlier))
           ])
       | inr none ↦ rw (kept has n none) (longer (owner has n r (rw (kept has n none) at k)))

@@ -9,8 +9,9 @@ use native.Mathlib.Omega.{arith}
 use lib.ListN.{length, get_or, get_or-eq_default}
 use lib.Dec.{eqb, leb}
 use borrow.Author.Tests.{eqb-true, eqb-false, eq-eqb, ne_eqb, leb-true, lt-ltb, le-ltb}
+use Rattle.std.proofs.lemmas.Bool.{cases_Bool, cases_lt, cases_eq}
 use Rattle.common.specs.Lists.{all_of}
-use Rattle.common.proofs.Lists.{get_or-grid, by_test, true_or_false, below_or_not, equal_or_not, all_of_at, and_right}
+use Rattle.common.proofs.Lists.{get_or-grid, all_of_at, and_right}
 use Rattle.cells.specs.declared.Cell.{Cell}
 use Rattle.cells.specs.declared.Cell.TheVariants.{Off, On, Yes, No}
 use Rattle.cells.specs.Code.{cell_of}
@@ -108,19 +109,19 @@ edge_none d p q other another = rw (ne_eqb q (low_at d p) other, ne_eqb q (high_
 -- an off cell never conducts
 off_dark : (s : List ℕ) (c : Cell) → c ≡ Off → conducts s c ≡ true → ⊥
 unfolding conducts
-off_dark s c e h = true_or_false (conducts s Off) (rw e at h) refl
+off_dark s c e h = cc (rw e at h)
 
 -- an edge that conducts leads to the parent's step
 pub edge-step : (d : Diagram) (s : List ℕ) (p q : ℕ) → conducts s (edge d p q) ≡ true → step d s p ≡ q
 unfolding conducts
 edge-step d s p q h =
-    elim (equal_or_not q (low_at d p)) [
+    elim (cases_eq q (low_at d p)) [
       | inl low ↦
           let lit : eqb (get_or s (switch_at d p) 0) 0 ≡ true = rw (edge_low d p q low) at h in
           let none : get_or s (switch_at d p) 0 ≡ 0 = eqb-true (get_or s (switch_at d p) 0) 0 lit in
           step_low d s p (ne_eqb (get_or s (switch_at d p) 0) 1 (λ z. omega arith)) ∙ sym low
       | inr other ↦
-          elim (equal_or_not q (high_at d p)) [
+          elim (cases_eq q (high_at d p)) [
             | inl high ↦
                 let lit : eqb (get_or s (switch_at d p) 0) 1 ≡ true = rw (edge_high d p q other high) at h in step-high d s p lit ∙ sym high
             | inr neither ↦ absurd (off_dark s (edge d p q) (edge_none d p q other neither) h)
@@ -131,7 +132,7 @@ edge-step d s p q h =
 pub setting_most : (v : ℕ) (s : List ℕ) (x : ℕ) → is_setting v s ≡ true → get_or s x 0 ≤ 1
 unfolding is_setting
 setting_most v s x h =
-    elim (below_or_not x (length s)) [
+    elim (cases_lt x (length s)) [
       | inl k ↦
           leb-true (get_or s x 0) 1 (all_of_at (λ b. leb b 1) s x (and_right (eqb (length s) v) (all_of (λ b. leb b 1) s) h) k)
       | inr k ↦ rw (get_or-eq_default s 0 k) (omega arith)
@@ -145,7 +146,7 @@ pub step-edge :
     → conducts s (edge d i (step d s i)) ≡ true
 unfolding conducts
 step-edge d s i facts setting =
-    elim (by_test (eqb (get_or s (switch_at d i) 0) 1)) [
+    elim (cases_Bool (eqb (get_or s (switch_at d i) 0) 1)) [
       | inl one ↦ rw (step-high d s i one, edge_high d i (high_at d i) (λ e. facts.children_differ (sym e)) refl) one
       | inr other ↦
           let differs = eqb-false (get_or s (switch_at d i) 0) 1 other in
@@ -164,14 +165,14 @@ pub data Joined (d : Diagram) (s : List ℕ) (p q : ℕ) : Type 0 where
 pub joined : (d : Diagram) (s : List ℕ) (p q : ℕ) → conducts s (meeting d p q) ≡ true → Joined d s p q
 joined d s zero q h = absurd (off_dark s (meeting d 0 q) (meeting_none d q) h)
 joined d s (suc p) q h =
-    elim (below_or_not q (suc p)) [
+    elim (cases_lt q (suc p)) [
       | inl k ↦ down (edge-step d s (suc p) q (rw (meeting_down d (suc p) q k) at h))
       | inr k ↦
-          elim (equal_or_not (suc p) q) [
+          elim (cases_eq (suc p) q) [
             | inl e ↦ own e
             | inr e ↦
                 let above : suc p < q = omega arith in
-                elim (by_test (has_row d q && has_column d (suc p))) [
+                elim (cases_Bool (has_row d q && has_column d (suc p))) [
                   | inl t ↦ absurd (off_dark s (meeting d (suc p) q) (meeting_over d (suc p) q (omega arith) above t) h)
                   | inr t ↦ up (edge-step d s q (suc p) (rw (meeting_up d (suc p) q (omega arith) above t) at h))
                 ]

@@ -9,13 +9,12 @@ use lib.ListN.{length, get_or, length-map}
 use lib.Seq.{get_or-take}
 use Rattle.common.specs.Limits.{max_nodes, max_switches, max_outputs}
 use Rattle.common.specs.Lists.{bit, zeros, padded, tab}
-use Rattle.common.proofs.Lists.{true_or_false}
 use Rattle.diagram.specs.declared.Node.{Node}
 use Rattle.diagram.specs.Diagram.{Diagram, id_count, entries, entry}
 use Rattle.diagram.specs.declared.IdWires.{IdWires}
 use Rattle.diagram.specs.Held.{held, no_wires, wires_of}
 use Rattle.diagram.specs.Facts.{Facts}
-use Rattle.diagram.specs.Wires.{has_row, row_of, column_of, row_count, column_count}
+use Rattle.diagram.specs.Wires.{row_of, column_of, row_count, column_count}
 use Rattle.jobs.specs.declared.Job.{Job}
 use Rattle.jobs.specs.Answer.{job_of}
 use Rattle.placement.specs.Placement.{cells, out_row, crossbar}
@@ -127,7 +126,7 @@ module _ (p : Inside) (d : Diagram) (view : planned p ≡ d) (plan : IsPlan p) w
     out_of_zero none =
         let zeroth : named ≡ 0 = sym out_is ∙ none in
         elim (out_on_row d facts j below) [
-          | inl has ↦ absurd (true_or_false (has_row d 0) (rw zeroth at has) (zero_rowless d))
+          | inl has ↦ absurd (cc (rw zeroth at has, zero_rowless d))
           | inr zero ↦ rw (zeroth, out_row_zero d) (rw (ap (λ (j : Job). j.rows) plan.is, view, zero.1) (omega arith))
         ]
 

@@ -9,8 +9,9 @@ use native.Mathlib.Omega.{arith}
 use lib.ListN.{length, get_or, get_or-eq_default}
 use lib.Dec.{eqb}
 use borrow.Author.Tests.{eq-eqb, ne_eqb}
+use Rattle.std.proofs.lemmas.Bool.{cases_Bool, cases_lt, cases_eq}
 use Rattle.common.specs.Lists.{bit}
-use Rattle.common.proofs.Lists.{by_test, true_or_false, and_left, and_right, below_or_not, equal_or_not, any_of_at}
+use Rattle.common.proofs.Lists.{and_left, and_right, any_of_at}
 use Rattle.cells.specs.Conducts.{conducts, joins}
 use Rattle.cells.specs.Setting.{is_setting}
 use Rattle.diagram.specs.Diagram.{Diagram, terminal, entries, entry, id_count, label_at}
@@ -18,7 +19,7 @@ use Rattle.diagram.specs.Faults.{alike}
 use Rattle.diagram.specs.Walk.{step, walk_end}
 use Rattle.diagram.specs.Wires.{owners, has_row, has_column, row_owners, column_owners, row_of, column_of, names_zero, row_count, column_count}
 use Rattle.diagram.specs.Facts.{Facts}
-use Rattle.diagram.proofs.Walk.{step_cases, step_below, walk_zero, walk_one, walk_step}
+use Rattle.diagram.proofs.Walk.{facts_fall, step_cases, step_falls, walk_zero, walk_one, walk_step}
 use Rattle.conduction.proofs.Chains.{chain_within}
 use Rattle.conduction.specs.Chain.{Wire, row, column, Chain, here, across, back, Within}
 use Rattle.placement.specs.Placement.{edge, meeting, cells, out_row}
@@ -64,7 +65,7 @@ walk_some d s (suc i) e = omega arith
 -- the id of any wire is an id of the diagram
 owner_within : (d : Diagram) (has : ℕ → Bool) (r : ℕ) → get_or (owners has (id_count d)) r 0 < id_count d
 owner_within d has r =
-    elim (below_or_not r (length (owners has (id_count d)))) [
+    elim (cases_lt r (length (owners has (id_count d)))) [
       | inl k ↦ owner_below has (id_count d) r k
       | inr k ↦ rw (get_or-eq_default (owners has (id_count d)) 0 k) (omega (arith, one_within d))
     ]
@@ -115,29 +116,18 @@ record LitWire (d : Diagram) (s : List ℕ) (i : ℕ) : Type 0 where
 
 module _ (d : Diagram) (s : List ℕ) (facts : Facts d) (setting : is_setting d.switches s ≡ true) where
   -- one step of a chain, from the row of p to the column of q and back, where their meeting cell conducts
-  to_column :
+  crossing :
       (p q : ℕ)
       → has_row d p ≡ true
       → p < id_count d
       → has_column d q ≡ true
       → q < id_count d
       → conducts s (meeting d p q) ≡ true
-      → Reach d s (row (row_of d p))
-      → Reach d s (column (column_of d q))
-  to_column p q has below col within e chain =
-      across chain (column_below d q col within) (joined_ids d s p q has below col within ∙ e)
-
-  to_row :
-      (p q : ℕ)
-      → has_row d p ≡ true
-      → p < id_count d
-      → has_column d q ≡ true
-      → q < id_count d
-      → conducts s (meeting d p q) ≡ true
-      → Reach d s (column (column_of d q))
-      → Reach d s (row (row_of d p))
-  to_row p q has below col within e chain =
-      back chain (within_rows d p has below) (joined_ids d s p q has below col within ∙ e)
+      → (Reach d s (row (row_of d p)) → Reach d s (column (column_of d q)))
+      × (Reach d s (column (column_of d q)) → Reach d s (row (row_of d p)))
+  crossing p q has below col within e =
+      let joins = joined_ids d s p q has below col within ∙ e in
+      (λ chain. across chain (column_below d q col within) joins, λ chain. back chain (within_rows d p has below) joins)
 
   -- from one wire of an id to the other, by the on cell of a `b`
   own_cell : (i : ℕ) → 0 < i → conducts s (meeting d i i) ≡ true
@@ -146,11 +136,11 @@ module _ (d : Diagram) (s : List ℕ) (facts : Facts d) (setting : is_setting d.
 
   from_row : (i : ℕ) → 0 < i → i < id_count d → has_row d i ≡ true → Reach d s (row (row_of d i)) → LitWire d s i
   from_row i some within has chain =
-      record { at_row = λ _. chain; at_column = λ col. to_column i i has within col within (own_cell i some) chain }
+      record { at_row = λ _. chain; at_column = λ col. (crossing i i has within col within (own_cell i some)).0 chain }
 
   from_column : (i : ℕ) → 0 < i → i < id_count d → has_column d i ≡ true → Reach d s (column (column_of d i)) → LitWire d s i
   from_column i some within has chain =
-      record { at_row = λ r. to_row i i r within has within (own_cell i some) chain; at_column = λ _. chain }
+      record { at_row = λ r. (crossing i i r within has within (own_cell i some)).1 chain; at_column = λ _. chain }
 
   lit_one : LitWire d s 1
   lit_one = from_row 1 (omega arith) (one_within d) (one_row d facts) (rw (row_zero d) here)
@@ -166,16 +156,16 @@ module _ (d : Diagram) (s : List ℕ) (facts : Facts d) (setting : is_setting d.
       → LitWire d s k
       → LitWire d s i
   lit_parent i k within some below e lit child =
-      elim (by_test (has_row d i && has_column d k)) [
+      elim (cases_Bool (has_row d i && has_column d k)) [
         | inl t ↦
             let i-row = and_left (has_row d i) (has_column d k) t in
             let k-column = and_right (has_row d i) (has_column d k) t in
             from_row i (omega arith) within i-row
-            (to_row i k i-row within k-column (omega arith) (rw (meeting_down d i k below) lit) (child.at_column k-column))
+            ((crossing i k i-row within k-column (omega arith) (rw (meeting_down d i k below) lit)).1 (child.at_column k-column))
         | inr t ↦
             let others = child_row d facts i k (omega arith) within some (omega arith) e t in
             from_column i (omega arith) within others.1
-            (to_column k i others.0 (omega arith) others.1 within (rw (meeting_up d k i some below t) lit) (child.at_row others.0))
+            ((crossing k i others.0 (omega arith) others.1 within (rw (meeting_up d k i some below t) lit)).0 (child.at_row others.0))
       ]
 
   -- where the walk from an id ends at 1, chains join row 0 to its wires: by induction on a bound of the id
@@ -187,7 +177,7 @@ module _ (d : Diagram) (s : List ℕ) (facts : Facts d) (setting : is_setting d.
       let i = suc (suc j) in
       let f = facts.node i (omega arith) within in
       let k = step d s i in
-      let falls : k < i = step_below d s facts i (omega arith) within in
+      let falls : k < i = step_falls d s (facts_fall d facts) i (omega arith) within in
       let same : walk_end d s k ≡ 1 = walk_step d s facts i within ∙ ends in
       let some : 0 < k = walk_some d s k same in
       let differ : alike (label_at d i) (label_at d k) ≡ false =
@@ -204,7 +194,7 @@ module _ (d : Diagram) (s : List ℕ) (facts : Facts d) (setting : is_setting d.
 -- the row of an output: of an id with a row, and of 0
 pub out_row_of : (d : Diagram) (i : ℕ) → has_row d i ≡ true → out_row d i ≡ row_of d i
 unfolding out_row
-out_row_of d zero has = absurd (true_or_false (has_row d 0) has (zero_rowless d))
+out_row_of d zero has = absurd (cc (zero_rowless d))
 out_row_of d (suc i) has = rw (ne_eqb (suc i) 0 (λ z. omega arith), out_row)
 
 pub out_row_zero : (d : Diagram) → out_row d 0 ≡ length (row_owners d)
@@ -246,7 +236,7 @@ pub out_on_row : (d : Diagram) → Facts d → (j : ℕ) → j < length d.outs �
 unfolding has_row names_zero
 out_on_row d facts j k =
     let i = get_or d.outs j 0 in
-    elim (equal_or_not i 0) [
+    elim (cases_eq i 0) [
       | inl e ↦ inr (e, any_of_at (λ x. eqb x 0) d.outs j 0 k (eq-eqb i 0 e))
       | inr e ↦ inl (not_column (id_label d facts i (omega arith) (facts.outs_named j k)) (facts.outs_in_rows j k))
     ]

@@ -3,12 +3,14 @@ use Prim.Native.Nat.{ℕ, zero, suc, ◌+◌, ◌*◌, ◌≤◌, ◌<◌}
 use mathlib.Core.Path.{◌≡◌, refl, sym, ap, ◌∙◌}
 use mathlib.Core.Logic.{◌⊎◌, inl, inr}
 use mathlib.Core.Bool.{Bool, true, false, ◌&&◌, ◌||◌}
+use native.Mathlib.Nat.{pos_of_ne-zero}
 use native.Mathlib.Omega.{arith}
 use lib.ListN.{length, get_or, get_or-eq_default}
 use lib.Dec.{eqb}
-use borrow.Author.Tests.{eqb-true}
+use Rattle.std.proofs.lemmas.Bool.Decides.{nat_tests}
+use Rattle.std.proofs.lemmas.Bool.{cases_Bool, cases_lt, cases_eq, and_from}
 use Rattle.common.specs.Lists.{bit}
-use Rattle.common.proofs.Lists.{and_left, and_right, and_both, or_cases, by_test, true_or_false, equal_or_not, below_or_not, not-zero, get_or-grid}
+use Rattle.common.proofs.Lists.{and_left, and_right, get_or-grid}
 use Rattle.cells.specs.declared.Cell.TheVariants.{On}
 use Rattle.cells.specs.Code.{code_of}
 use Rattle.diagram.specs.Diagram.{Diagram, id_count, entry, entries, terminal, low_at, high_at, label_at}
@@ -55,24 +57,16 @@ unfolding has_column
 columnless_zero d = rw label_zero
 
 row_not_zero : (d : Diagram) (i : ℕ) → has_row d i ≡ true → 1 ≤ i
-row_not_zero d zero h = absurd (true_or_false (has_row d 0) h (readings.zero_rowless d))
+row_not_zero d zero h = absurd (cc (readings.zero_rowless d))
 row_not_zero d (suc i) h = omega arith
 
 column_not_zero : (d : Diagram) (i : ℕ) → has_column d i ≡ true → 1 ≤ i
-column_not_zero d zero h = absurd (true_or_false (has_column d 0) h (columnless_zero d))
+column_not_zero d zero h = absurd (cc (columnless_zero d))
 column_not_zero d (suc i) h = omega arith
 
 -- both wires: `b`
 both_wires : (t : ℕ) → (eqb t 1 || eqb t 3 ≡ true) → (eqb t 2 || eqb t 3 ≡ true) → t ≡ 3
-both_wires t row column =
-    elim (or_cases (eqb t 1) (eqb t 3) row) [
-      | inl h ↦
-          elim (or_cases (eqb t 2) (eqb t 3) column) [
-            | inl v ↦ absurd (omega (arith, eqb-true t 1 h, eqb-true t 2 v))
-            | inr b ↦ eqb-true t 3 b
-          ]
-      | inr b ↦ eqb-true t 3 b
-    ]
+both_wires t row column = grind (arith, nat_tests)
 
 module _ (d : Diagram) where
   first_column : column_of d 1 ≡ 0
@@ -160,10 +154,10 @@ module _ (d : Diagram) where
       → (side : Bool) × (k ≡ child_at d i side) × (code_of (edge d i k) ≡ code_of (literal d i side))
   unfolding code_of
   edge_some i k some =
-      elim (equal_or_not k (low_at d i)) [
+      elim (cases_eq k (low_at d i)) [
         | inl e ↦ (false, e, ap code_of (edge_low d i k e))
         | inr other ↦
-            elim (equal_or_not k (high_at d i)) [
+            elim (cases_eq k (high_at d i)) [
               | inl e ↦ (true, e, ap code_of (edge_high d i k other e))
               | inr another ↦ absurd (some (ap code_of (edge_none d i k other another)))
             ]
@@ -204,21 +198,21 @@ module _ (d : Diagram) where
       let code = code_meeting p q row row_most column column_most in
       let p-least = row_not_zero d p row in
       let q-least = column_not_zero d q column in
-      elim (equal_or_not p q) [
+      elim (cases_eq p q) [
         | inl e ↦
             let b = both_wires (label_at d p) row (rw (← e) at column) in
             rw (← e) (own p row_most b refl refl (both_on p row_most b))
         | inr apart ↦
-            elim (below_or_not q p) [
+            elim (cases_lt q p) [
               | inl lower ↦
-                  let place = place_parent p q (and_both (has_row d p) (has_column d q) row column) in
+                  let place = place_parent p q (and_from (has_row d p) (has_column d q) row column) in
                   step-at p q (row_of d p) (column_of d q) (omega arith) row_most q-least
                   (sym place.0)
                   (sym place.1)
                   (code ∙ ap code_of (meeting_down d p q lower))
                   some
               | inr higher ↦
-                  elim (by_test (has_row d q && has_column d p)) [
+                  elim (cases_Bool (has_row d q && has_column d p)) [
                     | inl both ↦ absurd (some (code ∙ ap code_of (meeting_over d p q p-least (omega arith) both)))
                     | inr otherwise ↦
                         let place = place_child q p otherwise in
@@ -239,7 +233,7 @@ module _ (d : Diagram) where
   -- a cell that is not off is the on cell of a `b` label or the literal of an edge
   pub placed : (r c : ℕ) → c < column_count d → (code_at d r c ≡ 0 → ⊥) → CellStands d r c
   placed r c within some =
-      elim (below_or_not r (length (row_owners d))) [
+      elim (cases_lt r (length (row_owners d))) [
         | inl below ↦
             let p = row_owned r below in
             let q = column_owned c within in
@@ -250,7 +244,7 @@ module _ (d : Diagram) where
   -- "All other cells are off."
   others_off : (r c : ℕ) → c < column_count d → (CellStands d r c → ⊥) → code_at d r c ≡ 0
   others_off r c within none =
-      elim (equal_or_not (code_at d r c) 0) [ inl off ↦ off | inr some ↦ absurd (none (placed r c within some)) ]
+      elim (cases_eq (code_at d r c) 0) [ inl off ↦ off | inr some ↦ absurd (none (placed r c within some)) ]
 
   -- "If any output names 0, one last row without cells serves all such outputs."
   last_row_empty :
@@ -288,7 +282,7 @@ module _ (d : Diagram) (facts : Facts d) where
       → (has_row d (child_at d i side) ≡ true) × (has_column d i ≡ true)
   otherwise_wires i side e otherwise =
       let below = child_below i side e.least e.most in
-      child_row d facts i (child_at d i side) (omega arith) e.most (not-zero (child_at d i side) e.present) (omega arith)
+      child_row d facts i (child_at d i side) (omega arith) e.most (pos_of_ne-zero e.present) (omega arith)
       (child_unlike i side e.least e.most)
       otherwise
 
@@ -298,7 +292,7 @@ module _ (d : Diagram) (facts : Facts d) where
       let k = child_at d i side in
       let below : child_at d i side < i = child_below i side e.least e.most in
       let least : 1 ≤ child_at d i side = omega (arith, e.present) in
-      elim (by_test (has_row d i && has_column d k)) [
+      elim (cases_Bool (has_row d i && has_column d k)) [
         | inl both ↦
             record {
               p = i;

@@ -10,9 +10,10 @@ use lib.ListN.{length, get_or, take, drop, length-map}
 use lib.Seq.{take-length, drop-length, take_at, drop_at}
 use lib.Dec.{eqb, leb, ltb}
 use borrow.Author.Tests.{lt-ltb, le-leb}
+use Rattle.std.proofs.lemmas.Bool.{cases_eq}
 use Rattle.common.specs.Limits.{max_rows, max_columns, max_switches, max_outputs}
 use Rattle.common.specs.Lists.{zeros, padded, all_of}
-use Rattle.common.proofs.Lists.{equal_or_not, length-grid, length-padded, all_of_grid, all_of_map, all_of_zeros}
+use Rattle.common.proofs.Lists.{length-grid, length-padded, all_of_grid, all_of_map, all_of_zeros}
 use Rattle.cells.specs.Code.{code_of}
 use Rattle.cells.specs.Record.{codes_low, size, in_range, sound}
 use Rattle.diagram.specs.Diagram.{Diagram}
@@ -63,7 +64,7 @@ module _ (d : Diagram) (facts : Facts d) where
   -- "a code above 1 + 2·V": none
   pub code_most : (r c : ℕ) → c < column_count d → code_at d r c ≤ 1 + 2 * d.switches
   code_most r c within =
-      elim (equal_or_not (code_at d r c) 0) [ inl off ↦ omega arith | inr some ↦ placed_most r c (placed d r c within some) ]
+      elim (cases_eq (code_at d r c) 0) [ inl off ↦ omega arith | inr some ↦ placed_most r c (placed d r c within some) ]
 
   -- each output row is a row
   pub out_row_below_lem : (j : ℕ) → j < length d.outs → out_row d (get_or d.outs j 0) < row_count d

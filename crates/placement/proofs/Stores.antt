@@ -7,9 +7,10 @@ use mathlib.Core.List.{List}
 use native.Mathlib.Omega.{arith}
 use lib.ListN.{length}
 use lib.Dec.{eqb}
-use borrow.Author.Tests.{eqb-true, eq-eqb, ne_eqb}
+use borrow.Author.Tests.{eqb-true, eqb-false, eq-eqb, ne_eqb, not-true}
+use Rattle.std.proofs.lemmas.Bool.{not_from_false}
 use Rattle.common.specs.Lists.{zeros, padded}
-use Rattle.common.proofs.Lists.{true_or_false, at_or_below}
+use Rattle.common.proofs.Lists.{at_or_below}
 use Rattle.cells.specs.Code.{code_of}
 use Rattle.diagram.specs.Diagram.{Diagram, id_count, label_at}
 use Rattle.diagram.specs.Wires.{row_count, column_count}
@@ -18,15 +19,8 @@ use Rattle.placement.specs.Placement.{cells}
 use Rattle.placement.specs.Sentences.{has_both, child_at, literal, IsEdge}
 use Rattle.placement.specs.Filling.{cell_place, edge_place, with_on, with_edge, with_cells, with_nodes}
 use Rattle.placement.proofs.Labels.{label_zero}
-use Rattle.placement.proofs.Filled.{Filled, Partly, Stored, partly_zeros, all_filled, one_store}
+use Rattle.placement.proofs.Filled.{FilledAs, Partly, Stored, partly_zeros, all_filled, one_store}
 use Rattle.placement.proofs.Wanted.{Whose, of_label, of_edge, target_long, own_in, edge_in, whose}
-
--- a test that a child is not terminal 0
-child_some : (k : ℕ) → not (eqb k 0) ≡ true → k ≡ 0 → ⊥
-child_some k h e = true_or_false (not (eqb k 0)) h (rw (eq-eqb k 0 e))
-
-some_child : (k : ℕ) → (k ≡ 0 → ⊥) → not (eqb k 0) ≡ true
-some_child k h = rw (ne_eqb k 0 h)
 
 module _ (d : Diagram) where
   -- the cells of one id more
@@ -56,8 +50,8 @@ module _ (d : Diagram) where
     -- the places of the cells of the ids below k + 2 are filled
     record Done (k : ℕ) (s : List ℕ) : Type 0 where
       pub partly : Partly target s
-      pub own : (i : ℕ) → i < k + 2 → label_at d i ≡ 3 → Filled target s (cell_place d i i)
-      pub edge : (i : ℕ) (side : Bool) → i < k + 2 → IsEdge d i side → Filled target s (edge_at i side)
+      pub own : (i : ℕ) → i < k + 2 → label_at d i ≡ 3 → FilledAs target s (cell_place d i i)
+      pub edge : (i : ℕ) (side : Bool) → i < k + 2 → IsEdge d i side → FilledAs target s (edge_at i side)
 
     on_store : (i : ℕ) (s : List ℕ) → i < id_count d → Partly target s → Stored target (has_both d i) (cell_place d i i) s (with_on d i s)
     unfolding with_on has_both code_of
@@ -73,9 +67,9 @@ module _ (d : Diagram) where
     unfolding with_edge
     edge_store i side s least most partly =
         one_store target (not (eqb (child_at d i side) 0)) (edge_at i side) (code_of (literal d i side)) s partly
-        (λ e. edge_in d facts room fits i side (record { least = least; most = most; present = child_some (child_at d i side) e }))
+        (λ e. edge_in d facts room fits i side (record { least = least; most = most; present = eqb-false (child_at d i side) 0 (not-true _ e) }))
 
-    own_filled : (i : ℕ) (s after : List ℕ) → label_at d i ≡ 3 → Stored target (has_both d i) (cell_place d i i) s after → Filled target after (cell_place d i i)
+    own_filled : (i : ℕ) (s after : List ℕ) → label_at d i ≡ 3 → Stored target (has_both d i) (cell_place d i i) s after → FilledAs target after (cell_place d i i)
     unfolding has_both
     own_filled i s after b stored = stored.filled (eq-eqb (label_at d i) 3 b)
 
@@ -83,8 +77,8 @@ module _ (d : Diagram) where
         (i : ℕ) (side : Bool) (s after : List ℕ)
         → IsEdge d i side
         → Stored target (not (eqb (child_at d i side) 0)) (edge_at i side) s after
-        → Filled target after (edge_at i side)
-    edge_filled i side s after e stored = stored.filled (some_child (child_at d i side) e.present)
+        → FilledAs target after (edge_at i side)
+    edge_filled i side s after e stored = stored.filled (not_from_false _ (ne_eqb (child_at d i side) 0 e.present))
 
     -- the edge to the low child is stored, then the one to the high child
     edges_filled :
@@ -92,7 +86,7 @@ module _ (d : Diagram) where
         → IsEdge d i side
         → Stored target (not (eqb (child_at d i false) 0)) (edge_at i false) s₀ s₁
         → Stored target (not (eqb (child_at d i true) 0)) (edge_at i true) s₁ s₂
-        → Filled target s₂ (edge_at i side)
+        → FilledAs target s₂ (edge_at i side)
     edges_filled i false s₀ s₁ s₂ e low high = high.kept (edge_at i false) (edge_filled i false s₀ s₁ e low)
     edges_filled i true s₀ s₁ s₂ e low high = edge_filled i true s₁ s₂ e high
 
@@ -140,7 +134,7 @@ module _ (d : Diagram) where
     all_done zero most = begin
     all_done (suc k) most = more k _ (omega arith) (all_done k (omega arith))
 
-    whose_filled : (s : List ℕ) (k p : ℕ) → k + 2 ≡ id_count d → Done k s → Whose d p → Filled target s p
+    whose_filled : (s : List ℕ) (k p : ℕ) → k + 2 ≡ id_count d → Done k s → Whose d p → FilledAs target s p
     whose_filled s k p all done (of_label i most b at) = rw at (done.own i (omega arith) b)
     whose_filled s k p all done (of_edge i side e at) = rw at (done.edge i side (omega (arith, e.most)) e)
 

@@ -1,15 +1,15 @@
 -- What is to stand at each place of the buffer: the on cell of a `b` label, the literal of an edge, or 0.
-use Prim.Native.Nat.{ℕ, zero, suc, ◌+◌, ◌-◌, ◌*◌, ◌/◌, ◌%◌, ◌≤◌, ◌<◌}
+use Prim.Native.Nat.{ℕ, zero, suc, ◌+◌, ◌*◌, ◌/◌, ◌%◌, ◌≤◌, ◌<◌}
 use mathlib.Core.Path.{◌≡◌, sym, ap, ◌∙◌}
 use mathlib.Core.Logic.{inl, inr}
 use mathlib.Core.Bool.{Bool, ◌&&◌}
-use mathlib.Core.List.{List}
 use native.Mathlib.Omega.{arith}
 use native.Mathlib.Nat.{div-add-mod', div-lt_iff_lt-mul, mod-lt}
-use lib.ListN.{length, get_or}
-use lib.Seq.{get_or-append-add}
-use Rattle.common.specs.Lists.{zeros, padded}
-use Rattle.common.proofs.Lists.{by_test, below_or_not, length-grid, length-padded, get_or-padded, within_grid, get_or-zeros_at}
+use lib.Arith.{digits_lt}
+use lib.ListN.{length, get_or, get_or-eq_default}
+use Rattle.std.proofs.lemmas.Bool.{cases_Bool, cases_lt}
+use Rattle.common.specs.Lists.{padded}
+use Rattle.common.proofs.Lists.{length-grid, length-padded, get_or-padded, get_or-padded_any}
 use Rattle.cells.specs.Code.{code_of}
 use Rattle.diagram.specs.Diagram.{Diagram, id_count, label_at}
 use Rattle.diagram.specs.Wires.{has_row, has_column, row_of, column_of, row_count, column_count}
@@ -25,18 +25,11 @@ in_grid : (m n p : ℕ) → p < m * n → (p / n < m) × (p % n < n) × (p ≡ p
 in_grid m zero p h = absurd (omega arith)
 in_grid m (suc n) p h = ((div-lt_iff_lt-mul {k = suc n} (omega arith)).1 h, mod-lt p (omega arith), sym (div-add-mod' p (suc n)))
 
--- past the end of a padded list
-past_padded : (n : ℕ) (s : List ℕ) (p : ℕ) → length s ≤ p → get_or (padded n s) p 0 ≡ 0
-unfolding padded
-past_padded n s p h =
-    let e : p ≡ length s + (p - length s) = omega arith in
-    rw e (get_or-append-add s (zeros (n - length s)) (p - length s) 0 ∙ get_or-zeros_at (n - length s) (p - length s))
-
 -- the place of an edge, by its row and its column
 edge-place : (d : Diagram) (i k : ℕ) → edge_place d i k ≡ edge_row d i k * column_count d + edge_column d i k
 unfolding edge_place cell_place edge_row edge_column
 edge-place d i k =
-    elim (by_test (has_row d i && has_column d k)) [
+    elim (cases_Bool (has_row d i && has_column d k)) [
       | inl both ↦ rw (both, edge_row, edge_column)
       | inr otherwise ↦ rw (otherwise, edge_row, edge_column)
     ]
@@ -49,7 +42,7 @@ pub data Whose (d : Diagram) (p : ℕ) : Type 0 where
 -- the place of an on cell, and that of an edge, is within a buffer that holds all cells
 module _ (d : Diagram) (room : ℕ) (fits : row_count d * column_count d ≤ room) where
   place_within : (r c : ℕ) → r < row_count d → c < column_count d → r * column_count d + c < room
-  place_within r c h k = omega (arith, within_grid (row_count d) (column_count d) r c h k)
+  place_within r c h k = omega (arith, digits_lt h k)
 
   pub own_within : (i : ℕ) → i < id_count d → label_at d i ≡ 3 → cell_place d i i < room
   unfolding cell_place has_row has_column
@@ -74,7 +67,7 @@ module _ (d : Diagram) (facts : Facts d) (room : ℕ) (fits : row_count d * colu
   target_at :
       (r c : ℕ) → r < row_count d → c < column_count d → get_or (padded room (cells d)) (r * column_count d + c) 0 ≡ code_at d r c
   target_at r c h k =
-      let within : r * column_count d + c < length (cells d) = omega (arith, cells_long, within_grid (row_count d) (column_count d) r c h k) in
+      let within : r * column_count d + c < length (cells d) = omega (arith, cells_long, digits_lt h k) in
       get_or-padded room (cells d) (r * column_count d + c) 0 within ∙ stored d r c h k
 
   pub own_in :
@@ -109,7 +102,7 @@ module _ (d : Diagram) (facts : Facts d) (room : ℕ) (fits : row_count d * colu
   -- "All other cells are off", and bytes past R·C are 0
   pub whose : (p : ℕ) → (get_or (padded room (cells d)) p 0 ≡ 0 → ⊥) → Whose d p
   whose p some =
-      elim (below_or_not p (row_count d * column_count d)) [
+      elim (cases_lt p (row_count d * column_count d)) [
         | inl within ↦
             let at = in_grid (row_count d) (column_count d) p within in
             let r = p / column_count d in
@@ -117,5 +110,5 @@ module _ (d : Diagram) (facts : Facts d) (room : ℕ) (fits : row_count d * colu
             let code : get_or (padded room (cells d)) p 0 ≡ code_at d (p / column_count d) (p % column_count d) =
             ap (λ (q : ℕ). get_or (padded room (cells d)) q 0) at.2 ∙ target_at r c at.0 at.1 in
             whose_at r c p at.2 (placed d r c at.1 (λ off. some (code ∙ off)))
-        | inr past ↦ absurd (some (past_padded room (cells d) p (omega (arith, cells_long))))
+        | inr past ↦ absurd (some (get_or-padded_any room (cells d) p ∙ get_or-eq_default (cells d) 0 (omega (arith, cells_long))))
       ]

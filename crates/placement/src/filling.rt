@@ -1,24 +1,25 @@
 // The cells, stored one after another into a buffer of zeros: "All other cells are off", and bytes past R·C are 0.
-ghost use Rattle.std.specs.Prelude.{◌≡◌, ◌<◌, length, set};
+ghost use Rattle.std.specs.Prelude.{◌≡◌, ◌<◌, ◌≤◌, length, set};
 ghost use Rattle.cells.specs.Code.{code_of};
 
 use crate::Plan;
 use cells::Cell;
 use common::{LABEL_B, LABEL_H, LABEL_V};
-use diagram::wires::has_wire;
+use diagram::wires::label_has;
 
-// Writes one cell. Nothing else writes to the buffer once `map` has filled it with zeros. It asks that the place is there, where the `store` of
-// load, whose buffer may be too short, passes over a place that is not.
+// Writes one cell, whose code is known to fit a byte. Nothing else writes to the buffer once `map` has filled it with zeros. It asks that the place is
+// there, so that a place past R·C would not be proved; the `store` of load, whose buffer may be too short, passes over it in silence. The places are
+// of two wires each, so there is no order in which a loop over the cells would meet them.
 fn store(cells: &mut [u8], at: usize, cell: Cell)
     requires within { at < length cells.old }
-    requires code { code_of cell < 256 }
+    requires code { code_of cell ≤ u8.MAX }
     ensures { cells.new ≡ set cells.old at (code_of cell) }
 {
     cells[at] = cell.to_code() as u8;
 }
 
 // The buffer is handed to each function and is no part of the plan: a plan is only read, and the record is made of it when the cells are stored.
-// That an id is the diagram's is a clause of each function that takes one: a type of such ids would have to name its diagram.
+// That an id is the diagram's is a clause of each function that takes one: a type of such ids would hold the plan too, and be made anew for each child.
 impl Plan<'_> {
     ghost use Rattle.std.specs.Prelude.{◌≡◌, ◌≢◌, ◌+◌, ◌*◌, ◌<◌, ◌≤◌, length, set};
     ghost use Rattle.common.specs.Labels.{label_b};
@@ -56,7 +57,7 @@ impl Plan<'_> {
     fn has_wire(&self, kind: u16, id: usize) -> bool
         ensures { result ≡ has_wire kind self.now id }
     {
-        has_wire(kind, self.diagram.entry(id).t)
+        label_has(kind, self.diagram.entry(id).t)
     }
 
     // Where the cell of the edge from a node to a child stands: "at the parent's row and child's column if both exist, otherwise at the child's row
@@ -78,7 +79,7 @@ impl Plan<'_> {
     fn edge_cell(&self, id: usize, child: usize, cell: Cell, cells: &mut [u8])
         requires ids { (id < id_count self.now) × (child < id_count self.now) }
         requires within { child ≢ 0 → edge_place self.now id child < length cells.old }
-        requires code { code_of cell < 256 }
+        requires code { code_of cell ≤ u8.MAX }
         ensures { cells.new ≡ with_edge self.now id child cell cells.old }
     {
         if child != 0 {
@@ -94,13 +95,15 @@ impl Plan<'_> {
         ensures { cells.new ≡ with_cells self.now id cells.old }
     {
         let node = self.diagram.entry(id);
+        // A switch of a job is below 64, so it is narrowed by `as`: there is no `From` to a byte.
         let x = node.x as u8;
         self.on_cell(id, cells);
         self.edge_cell(id, usize::from(node.l), Cell::No(x), cells);
         self.edge_cell(id, usize::from(node.h), Cell::Yes(x), cells);
     }
 
-    // All cells, those of terminal 1 and of the nodes, into a buffer of zeros.
+    // All cells, those of terminal 1 and of the nodes, into a buffer of zeros. By ids and not by the nodes, since the
+    // wires are numbered by ids.
     #[tactic(auto, using(crate::proofs::Plans::plans, crate::proofs::Wanted::own_within, crate::proofs::Stores::nodes_more), unfolding(crate::specs::Filling::with_nodes, diagram::specs::Diagram::id_count))]
     pub(crate) fn all_cells(&self, cells: &mut [u8])
         requires zero { cells.old ≡ zeros (length cells.old) }

@@ -10,7 +10,7 @@ use diagram::{Diagram, IdWires};
 use jobs::Job;
 use std::marker::Model;
 
-// What is placed: an accepted job, the diagram of its nodes, and the numbers of its wires by id.
+// What is placed: an accepted job, the diagram of its nodes, and the numbers of its wires by id, in an array since nothing may allocate.
 #[derive(Drop)]
 pub(crate) struct Plan<'a> {
     job: &'a Job,

@@ -12,7 +12,7 @@ use diagram::wires::number_wires;
 use jobs::Job;
 use jobs::reading::read_job;
 
-// Ground 14: whether a buffer is shorter than the R·C cells of a job's crossbar.
+// Ground 14: whether a buffer is shorter than the R·C cells of a job's crossbar, of which there is no record yet.
 fn is_short(job: &Job, room: usize) -> bool
     ensures { result ≡ ltb room (job.now.rows * job.now.columns) }
 {

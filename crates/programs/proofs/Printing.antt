@@ -11,6 +11,7 @@ use lib.Dec.{leb}
 use borrow.Author.Tests.{lt-ltb, le-ltb}
 use Rattle.std.specs.Prelude.{Result, Ok, Err, IsErr}
 use Rattle.std.specs.Result.{IsErrAnd, result_unwrap_or}
+use Rattle.std.proofs.lemmas.Bool.{cases_Bool, cases_eq}
 use Rattle.common.specs.declared.Fault.TheVariants as fault
 use Rattle.common.specs.declared.Refusal.{Refusal}
 use Rattle.common.specs.Fault.{faults, fault_of, handed}
@@ -18,7 +19,7 @@ use Rattle.common.specs.Limits.{max_rows, max_columns, max_switches, max_outputs
 use Rattle.common.specs.Lists.{zeros, padded, all_of}
 use Rattle.common.specs.Outcome.{Outcome, done, refused, ◌then◌, ◌when◌, lowest, unless, most_number, value_of, buffer_of, Answered}
 use Rattle.common.proofs.Faults.{number_faulted, handed_ok, handed_on}
-use Rattle.common.proofs.Lists.{by_test, equal_or_not, get_or_before_zeros}
+use Rattle.common.proofs.Lists.{get_or_before_zeros}
 use Rattle.common.proofs.Outcome.{then_done, unless_done}
 use Rattle.common.proofs.Within.{EndsWithin, ends_done, ends_refused, then_ends, unless_ends, within, not_the_form, most_line}
 use Rattle.figures.specs.Line.{Lines, left, ◌⏎◌, lines_of}
@@ -47,7 +48,7 @@ use Rattle.listings.proofs.Refusals.{FewCells, listing_ends}
 use Rattle.listings.proofs.RoundTrip.{print-zeros}
 use Rattle.programs.specs.Programs.{program_text, input_fits, blanks, set_line, reading, reads_lines, readings, light_and_read}
 use Rattle.programs.specs.Sets.{set_lines, set_readings, SameBytes}
-use Rattle.programs.specs.Texts.{in_room, whole_or_none, Said, refusal_line, Tells}
+use Rattle.programs.specs.Texts.{in_room, whole_or_none, Said, refusal_line, Untold}
 use Rattle.programs.proofs.Texts.{reading-lit, reading_dark}
 
 -- a refusal is printed as its line
@@ -68,13 +69,13 @@ pub told_refused :
     → EndsWithin P b o
     → IsErr r × IsErrAnd r (λ x. x ≡ e)
     → handed (λ t. t) o ≡ Err e
-    → Tells room (program_text o) r out
+    → Untold room (program_text o) r out
 told_refused o room out e r ends returned h = rw (passed_on r e returned) (refusal_told o e ends h)
 
 -- the first step of both programs
-pub input_long : (s : List ℕ) (rest : Outcome (List ℕ)) → max_input < length s → handed (λ t. t) (input_fits s rest) ≡ Err (record { fault = fault.NoRoom; line = 0 })
+pub input_long : (s : List ℕ) (rest : Outcome (List ℕ)) (e : Refusal) → (max_input < length s) × (e ≡ record { fault = fault.NoRoom; line = 0 }) → handed (λ t. t) (input_fits s rest) ≡ Err e
 unfolding input_fits lowest unless handed fault_of faults
-input_long s rest h = rw (lt-ltb max_input (length s) h)
+input_long s rest e h = rw (h.1, lt-ltb max_input (length s) h.0)
 
 pub input_short : (s : List ℕ) (rest : Outcome (List ℕ)) → length s ≤ max_input → input_fits s rest ≡ rest
 unfolding input_fits lowest unless
@@ -202,8 +203,8 @@ reads_the_set x codes setting room a done-so r =
     ⊎_elim
     (λ (l : lit (rounds m n j a.count) r ≡ true). sym (reading-lit a.firsts r some) ∙ sym (lit_one (rounds m n j a.count) r l))
     (λ (l : lit (rounds m n j a.count) r ≡ false). absurd (some ((answer.dark r).1 l)))
-    (by_test (lit (rounds m n j a.count) r)))
-    (equal_or_not (get_or a.firsts r 0) 0)
+    (cases_Bool (lit (rounds m n j a.count) r)))
+    (cases_eq (get_or a.firsts r 0) 0)
 
 lines_by_set :
     (firsts set : List ℕ) → ((r : ℕ) → reading firsts r ≡ get_or set r 0) → (j : ℕ) (rows : List ℕ) → reads_lines firsts j rows ≡ set_lines set j rows
@@ -274,7 +275,7 @@ module _ (t : List ℕ) where
       by (refused k l) h = cc
 
   -- the listing that was loaded
-  pub record Holds (x : Crossbar) (held : List ℕ) (y : Listed) : Type 0 where
+  pub record HoldsListed (x : Crossbar) (held : List ℕ) (y : Listed) : Type 0 where
     pub listed : load_from 2 (lines_of t) ≡ done y
     pub head : x ≡ record_of y
     pub cells_are : held ≡ padded (max_rows * max_columns) (cells_of y)
@@ -283,7 +284,7 @@ module _ (t : List ℕ) where
       (x : Crossbar) (held : List ℕ)
       → handed (λ w. w.head) (load_at 2 (lines_of t) (max_rows * max_columns)) ≡ Ok x
       → held ≡ buffer_of (max_rows * max_columns) (λ w. w.codes) (load_at 2 (lines_of t) (max_rows * max_columns))
-      → (y : Listed) × Holds x held y
+      → (y : Listed) × HoldsListed x held y
   unfolding ◌then◌ handed buffer_of
   load_goes x held h k = by (load_from 2 (lines_of t)) refl (rw load_fits at h) (rw load_fits at k)
     where
@@ -292,7 +293,7 @@ module _ (t : List ℕ) where
           → load_from 2 (lines_of t) ≡ o
           → handed (λ w. w.head) (o then λ y. done (whole y)) ≡ Ok x
           → held ≡ buffer_of (max_rows * max_columns) (λ w. w.codes) (o then λ y. done (whole y))
-          → (y : Listed) × Holds x held y
+          → (y : Listed) × HoldsListed x held y
       by (done y) e h k = (y, record { listed = e; head = cc; cells_are = k })
       by (refused a b) e h k = absurd cc
 

@@ -2,7 +2,7 @@
 use Prim.Native.Nat.{ℕ, zero, suc, ◌+◌, ◌≤◌, ◌<◌}
 use mathlib.Core.Path.{◌≡◌, refl, sym, ap, ◌∙◌}
 use mathlib.Core.Logic.{◌⊎◌, inl, inr, ⊎_elim}
-use mathlib.Core.Bool.{true, false, ◌&&◌}
+use mathlib.Core.Bool.{true, false, not, ◌&&◌}
 use mathlib.Core.Option.{Option, some, none, map}
 use mathlib.Core.List.{List, [], ◌∷◌, ◌++◌, append_assoc, append-nil}
 use native.Mathlib.Omega.{arith}
@@ -13,10 +13,13 @@ use borrow.Author.Tests.{ne_eqb, le-leb, lt-leb}
 use Rattle.std.proofs.lemmas.List.{take_more_set}
 use Rattle.std.specs.Prelude as std
 use Rattle.std.specs.Prelude.{Some, None, MatchOption}
+use Rattle.std.proofs.lemmas.Bool.{cases_Bool, cases_eq}
+use Rattle.std.proofs.Math.Bool.{and-false}
 use Rattle.common.specs.Limits.{max_switches}
 use Rattle.common.specs.Lists.{all_of}
-use Rattle.common.specs.Outcome.{done, refused, lowest, unless}
-use Rattle.common.proofs.Lists.{and_left, and_right, and-false, by_test, equal_or_not, all_of_append, all_of_single}
+use Rattle.common.specs.Outcome.{done, refused, ◌then◌, ◌when◌, lowest, unless}
+use Rattle.common.proofs.Lists.{and_left, and_right, all_of_append, all_of_single}
+use Rattle.common.proofs.Outcome.{unless_then}
 use Rattle.figures.specs.Bytes.{bytes, after}
 use Rattle.figures.specs.Figure.{Figured, is_digit, take_figure, decimal}
 use Rattle.figures.specs.Line.{Lines, left, ◌⏎◌, lines_of}
@@ -89,7 +92,7 @@ values_other zero b (a ∷ s) h k =
     ⊎_elim
     (λ (e : eqb 41 b ≡ true). values_word ")" [] (b ∷ a ∷ s) (a ∷ s) (after_same 41 b [] (a ∷ s) e) ∙ values_long a s)
     (λ (e : eqb 41 b ≡ false). word_none ")" [] (b ∷ a ∷ s) (after_other 41 b [] (a ∷ s) e))
-    (by_test (eqb 41 b))
+    (cases_Bool (eqb 41 b))
 values_other (suc n) b s h k =
     word_none " " (figure ∷ set_figures n) (b ∷ s) (after_other 32 b [] s (ne_eqb 32 b (λ (e : 32 ≡ b). h (sym e))))
 
@@ -106,9 +109,9 @@ unfolding all_of
 high_among [] v vs h = rw (lt-leb v 1 h)
 high_among (u ∷ us) v vs h = rw (high_among us v vs h) (and-false (leb u 1))
 
--- the set line by the figures of its line: none, as many as there may be, too many, and one above 1
-module _ (l : List ℕ) (ls : Lines) where
-  line_none : values (set_form (blanks l)) l ≡ none → set_line (l ⏎ ls) ≡ refused 1 1
+-- a set line with nothing after it, by the figures of the line: none, as many as there may be, too many, and one above 1
+module _ (l : List ℕ) where
+  line_none : values (set_form (blanks l)) l ≡ none → set_line (l ⏎ left []) ≡ refused 1 1
   unfolding set_line
   line_none e = rw (e, set_line)
 
@@ -117,18 +120,18 @@ module _ (l : List ℕ) (ls : Lines) where
       → values (set_form (blanks l)) l ≡ some vs
       → length vs ≤ max_switches
       → all_of (λ b. leb b 1) vs ≡ true
-      → set_line (l ⏎ ls) ≡ done (record { vals = vs; later = ls })
+      → set_line (l ⏎ left []) ≡ done (record { vals = vs; later = left [] })
   unfolding set_line lowest unless
   line_found vs e h k = rw (e, le-leb (length vs) max_switches h, k, set_line)
 
-  line_refused : (vs : List ℕ) → values (set_form (blanks l)) l ≡ some vs → (leb (length vs) max_switches && all_of (λ b. leb b 1) vs) ≡ false → set_line (l ⏎ ls) ≡ refused 1 1
+  line_refused : (vs : List ℕ) → values (set_form (blanks l)) l ≡ some vs → (leb (length vs) max_switches && all_of (λ b. leb b 1) vs) ≡ false → set_line (l ⏎ left []) ≡ refused 1 1
   unfolding set_line lowest unless
   line_refused vs e h = rw (e, h, set_line)
 
-  line_many : (vs : List ℕ) → values (set_form (blanks l)) l ≡ some vs → max_switches < length vs → set_line (l ⏎ ls) ≡ refused 1 1
+  line_many : (vs : List ℕ) → values (set_form (blanks l)) l ≡ some vs → max_switches < length vs → set_line (l ⏎ left []) ≡ refused 1 1
   line_many vs e h = line_refused vs e (rw (lt-leb (length vs) max_switches h))
 
-  line_high : (us vs : List ℕ) (v : ℕ) → values (set_form (blanks l)) l ≡ some (us ++ v ∷ vs) → 1 < v → set_line (l ⏎ ls) ≡ refused 1 1
+  line_high : (us vs : List ℕ) (v : ℕ) → values (set_form (blanks l)) l ≡ some (us ++ v ∷ vs) → 1 < v → set_line (l ⏎ left []) ≡ refused 1 1
   line_high us vs v e h =
       line_refused (us ++ v ∷ vs) e (rw (high_among us v vs h) (and-false (leb (length (us ++ v ∷ vs)) max_switches)))
 
@@ -156,7 +159,7 @@ module _ (l : List ℕ) where
   -- the line does not begin with the word, and does
   pub reading_other : (found : List ℕ) → after (bytes "(set") l ≡ none → SetIs l None found
   unfolding set_form SetIs
-  reading_other found h = λ ls. line_none l ls (word_none "(set" (set_figures (blanks l)) l h)
+  reading_other found h = line_none l (word_none "(set" (set_figures (blanks l)) l h)
 
   pub reading_start : (s found : List ℕ) → after (bytes "(set") l ≡ some s → length found ≡ max_switches → Reading l s found 0
   unfolding set_form all_of figures_in
@@ -180,7 +183,7 @@ module _ (l rest found : List ℕ) (count : ℕ) (r : Reading l rest found count
 
     pub reading_missing : (figures : List ℕ) → take_figure s ≡ none → SetIs l None figures
     unfolding SetIs ahead
-    reading_missing figures h = λ ls. line_none l ls (r.so_far ∙ ap (λ (t : List ℕ). ahead (take count found) (figures_in t)) here ∙ ap (ahead (take count found)) (figures_missing s h))
+    reading_missing figures h = line_none l (r.so_far ∙ ap (λ (t : List ℕ). ahead (take count found) (figures_in t)) here ∙ ap (ahead (take count found)) (figures_missing s h))
 
     module _ (f : Figured) (h : take_figure s ≡ some f) where
       next : values (set_form (blanks l)) l ≡ ahead (take count found) (map (λ vs. f.figure ∷ vs) (figures_in f.rest))
@@ -188,11 +191,11 @@ module _ (l rest found : List ℕ) (count : ℕ) (r : Reading l rest found count
 
       pub reading_high : (figures : List ℕ) → 1 < f.figure → SetIs l None figures
       unfolding SetIs ahead
-      reading_high figures k = λ ls. by ls (figures_in f.rest) next
+      reading_high figures k = by (figures_in f.rest) next
         where
-          by : (ls : Lines) (o : Option (List ℕ)) → values (set_form (blanks l)) l ≡ ahead (take count found) (map (λ vs. f.figure ∷ vs) o) → set_line (l ⏎ ls) ≡ refused 1 1
-          by ls none e = line_none l ls e
-          by ls (some vs) e = line_high l ls (take count found) vs f.figure e k
+          by : (o : Option (List ℕ)) → values (set_form (blanks l)) l ≡ ahead (take count found) (map (λ vs. f.figure ∷ vs) o) → set_line (l ⏎ left []) ≡ refused 1 1
+          by none e = line_none l e
+          by (some vs) e = line_high l (take count found) vs f.figure e k
 
       pub reading_more : count < max_switches → f.figure ≤ 1 → Reading l f.rest (set found count f.figure) (count + 1)
       reading_more k low =
@@ -212,7 +215,7 @@ module _ (l rest found : List ℕ) (count : ℕ) (r : Reading l rest found count
       let all : values (set_form (blanks l)) l ≡ some (take count found) =
       r.so_far ∙ ap (λ (t : List ℕ). ahead (take count found) (figures_in t)) e ∙ ap (ahead (take count found)) figures_end ∙ ap some (append-nil (take count found))
       in
-      (within, λ ls. line_found l ls (take count found) all (omega arith) r.low)
+      (within, line_found l (take count found) all (omega arith) r.low)
 
   -- anything else, where no figure follows or no more may follow
   pub reading_wrong :
@@ -220,33 +223,33 @@ module _ (l rest found : List ℕ) (count : ℕ) (r : Reading l rest found count
       → ((b : ℕ) (s : List ℕ) → rest ≡ b ∷ s → (b ≡ 32 → ⊥) ⊎ (max_switches ≤ length (take count found)))
       → SetIs l None found
   unfolding SetIs ahead
-  reading_wrong unended last = λ ls. by ls rest refl
+  reading_wrong unended last = by rest refl
     where
-      many : (ls : Lines) (v : ℕ) (o : Option (List ℕ)) → values (set_form (blanks l)) l ≡ ahead (take count found) (map (λ vs. v ∷ vs) o) → max_switches ≤ length (take count found) → set_line (l ⏎ ls) ≡ refused 1 1
-      many ls v none e h = line_none l ls e
-      many ls v (some vs) e h = line_many l ls (take count found ++ v ∷ vs) e (simp length-append (omega arith))
+      many : (v : ℕ) (o : Option (List ℕ)) → values (set_form (blanks l)) l ≡ ahead (take count found) (map (λ vs. v ∷ vs) o) → max_switches ≤ length (take count found) → set_line (l ⏎ left []) ≡ refused 1 1
+      many v none e h = line_none l e
+      many v (some vs) e h = line_many l (take count found ++ v ∷ vs) e (simp length-append (omega arith))
 
-      gone : (ls : Lines) (t : List ℕ) → rest ≡ t → figures_in t ≡ none → set_line (l ⏎ ls) ≡ refused 1 1
-      gone ls t e n = line_none l ls (r.so_far ∙ ap (λ (u : List ℕ). ahead (take count found) (figures_in u)) e ∙ ap (ahead (take count found)) n)
+      gone : (t : List ℕ) → rest ≡ t → figures_in t ≡ none → set_line (l ⏎ left []) ≡ refused 1 1
+      gone t e n = line_none l (r.so_far ∙ ap (λ (u : List ℕ). ahead (take count found) (figures_in u)) e ∙ ap (ahead (take count found)) n)
 
-      figure_or_none : (ls : Lines) (s : List ℕ) (o : Option Figured) → rest ≡ 32 ∷ s → max_switches ≤ length (take count found) → take_figure s ≡ o → set_line (l ⏎ ls) ≡ refused 1 1
-      figure_or_none ls s none e h t = gone ls (32 ∷ s) e (figures_missing s t)
-      figure_or_none ls s (some f) e h t =
-          many ls f.figure (figures_in f.rest)
+      figure_or_none : (s : List ℕ) (o : Option Figured) → rest ≡ 32 ∷ s → max_switches ≤ length (take count found) → take_figure s ≡ o → set_line (l ⏎ left []) ≡ refused 1 1
+      figure_or_none s none e h t = gone (32 ∷ s) e (figures_missing s t)
+      figure_or_none s (some f) e h t =
+          many f.figure (figures_in f.rest)
           (r.so_far ∙ ap (λ (u : List ℕ). ahead (take count found) (figures_in u)) e ∙ ap (ahead (take count found)) (figures_more s f t)) h
 
-      by : (ls : Lines) (t : List ℕ) → rest ≡ t → set_line (l ⏎ ls) ≡ refused 1 1
-      by ls [] e = gone ls [] e figures_none
-      by ls (b ∷ s) e =
+      by : (t : List ℕ) → rest ≡ t → set_line (l ⏎ left []) ≡ refused 1 1
+      by [] e = gone [] e figures_none
+      by (b ∷ s) e =
           ⊎_elim
           (λ (k : b ≡ 32).
           let blank : rest ≡ 32 ∷ s = e ∙ ap (λ (n : ℕ). n ∷ s) k in
           ⊎_elim
           (λ (other : b ≡ 32 → ⊥). absurd (other k))
-          (λ (full : max_switches ≤ length (take count found)). figure_or_none ls s (take_figure s) blank full refl)
+          (λ (full : max_switches ≤ length (take count found)). figure_or_none s (take_figure s) blank full refl)
           (last b s e))
-          (λ (k : b ≡ 32 → ⊥). gone ls (b ∷ s) e (figures_other b s k (λ q z. unended (e ∙ rw (q, z)))))
-          (equal_or_not b 32)
+          (λ (k : b ≡ 32 → ⊥). gone (b ∷ s) e (figures_other b s k (λ q z. unended (e ∙ rw (q, z)))))
+          (cases_eq b 32)
 
   -- no figure follows where no blank does
   pub reading_ends : (rest ≡ 41 ∷ [] → ⊥) → after (bytes " ") rest ≡ none → SetIs l None found
@@ -274,6 +277,15 @@ module _ (l rest found : List ℕ) (count : ℕ) (r : Reading l rest found count
 
 pub ruleset reading = (reading_other, reading_start, reading_missing, reading_high, reading_more, reading_last)
 
+-- the lines after a set line are handed on as they are
+set_alone : (l : List ℕ) (ls : Lines) → set_line (l ⏎ ls) ≡ set_line (l ⏎ left []) then λ o. done (record { vals = o.vals; later = ls })
+unfolding set_line ◌then◌
+set_alone l ls = by (values (set_form (blanks l)) l) refl
+  where
+    by : (o : Option (List ℕ)) → values (set_form (blanks l)) l ≡ o → set_line (l ⏎ ls) ≡ set_line (l ⏎ left []) then λ o. done (record { vals = o.vals; later = ls })
+    by none e = rw (e, set_line)
+    by (some vs) e = rw (e, set_line) (unless_then _ (lowest ((1 when not (leb (length vs) max_switches && all_of (λ b. leb b 1) vs)) ∷ [])) 1 _ _ refl)
+
 -- a text by its first line: where there is none, where its line is refused and where it is not
 module _ (s : List ℕ) where
   pub set_absent : lines_of s ≡ left s → set_line (lines_of s) ≡ refused 1 1
@@ -281,13 +293,16 @@ module _ (s : List ℕ) where
   set_absent h = rw h
 
   module _ (l rest figures : List ℕ) (first : lines_of s ≡ l ⏎ lines_of rest) where
+    whole : set_line (lines_of s) ≡ set_line (l ⏎ left []) then λ o. done (record { vals = o.vals; later = lines_of rest })
+    whole = ap set_line first ∙ set_alone l (lines_of rest)
+
     pub set_refused : SetIs l None figures → set_line (lines_of s) ≡ refused 1 1
-    unfolding SetIs
-    set_refused h = ap set_line first ∙ h (lines_of rest)
+    unfolding SetIs ◌then◌
+    set_refused h = whole ∙ rw h
 
     pub set_done : (n : ℕ) → SetIs l (Some n) figures → set_line (lines_of s) ≡ done (record { vals = take n figures; later = lines_of rest })
-    unfolding SetIs
-    set_done n h = ap set_line first ∙ h.1 (lines_of rest)
+    unfolding SetIs ◌then◌
+    set_done n h = whole ∙ rw h.1
 
 pub set_within : (l figures : List ℕ) (n : ℕ) → SetIs l (Some n) figures → n ≤ length figures
 unfolding SetIs

@@ -1,23 +1,23 @@
 -- What a program hands over for a text that was written into a clear buffer, and the readings part by part.
 use Prim.Native.Nat.{ℕ, ◌+◌, ◌-◌, ◌≤◌, ◌<◌}
-use mathlib.Core.Path.{◌≡◌, refl, sym, ap, ◌∙◌}
+use mathlib.Core.Path.{◌≡◌, refl, sym, ◌∙◌}
 use mathlib.Core.List.{List, [], ◌∷◌, ◌++◌}
 use native.Mathlib.Omega.{arith}
 use native.Mathlib.Numerals.{add-one}
 use lib.ListN.{length, get_or, take, drop, length-append, length-replicate, drop_of_length-le}
 use lib.Seq.{drop-cons, take_at}
 use borrow.Author.Tests.{le-ltb, lt-ltb, ne_eqb}
-use Rattle.std.specs.Prelude.{Some, None}
+use Rattle.std.specs.Prelude.{Option, Some, None, MatchOption, Result, Ok, Err, MatchResult}
+use Rattle.common.specs.declared.Refusal.{Refusal}
 use Rattle.common.specs.Lists.{bit, zeros, padded}
-use Rattle.common.proofs.Lists.{drop-zeros}
 use Rattle.common.specs.Outcome.{Outcome, done, refused, lowest, unless, value_of, buffer_of, Answered}
 use Rattle.forms.specs.Template.{line}
 use Rattle.forms.specs.Forms.{reads_form}
 use Rattle.forms.specs.Written.{Written}
 use Rattle.forms.proofs.Parts.{written_fits}
-use Rattle.figures.specs.Position.{splice}
+use Rattle.figures.proofs.Writing.{splice-zeros}
 use Rattle.programs.specs.Programs.{reading, reads_lines}
-use Rattle.programs.specs.Texts.{in_room, whole_or_none, Said}
+use Rattle.programs.specs.Texts.{in_room, whole_or_none, Said, refusal_line, Untold}
 
 pub room_fits : (room n : ℕ) (s : List ℕ) → n ≤ room → in_room room n s ≡ done s
 unfolding in_room lowest unless
@@ -50,24 +50,30 @@ pub reads_none : (firsts rows : List ℕ) (j : ℕ) → length rows ≤ j → re
 unfolding reads_lines
 reads_none firsts rows j h = rw (drop_of_length-le rows h)
 
-splice-zeros : (room : ℕ) (s : List ℕ) → splice (zeros room) 0 s ≡ padded room s
-unfolding splice padded
-splice-zeros room s = let e : 0 + length s ≡ length s = omega arith in rw e (ap (λ (l : List ℕ). s ++ l) (drop-zeros (length s) room))
-
 -- a text that was written into a clear buffer: what is handed over where it fits, and where it does not
-pub said_there : (t s : List ℕ) (n : ℕ) → Written (zeros (length t)) t 0 s (Some n) → Said (length t) s n t
+pub said_written :
+    (room : ℕ) (t s out : List ℕ) (n : ℕ) (past : Option ℕ)
+    → Written (zeros room) t 0 s past
+    → MatchOption past ((n ≡ 0) × (out ≡ zeros room)) (λ m. (n ≡ m) × (out ≡ t))
+    → Said room s n out
 unfolding whole_or_none value_of buffer_of
-said_there t s n w =
-    let b = w.within n refl in
-    let q : n ≡ length s = b.0 ∙ omega arith in
-    let f = room_fits (length t) (length s) s (omega (arith, written_fits w (omega arith), length-replicate {A = ℕ} (length t) 0)) in
-    record { answer = q ∙ rw f; buffer = b.1 ∙ splice-zeros (length t) s ∙ rw f }
+said_written room t s out n (Some m) w e =
+    let b = w.within m refl in
+    let q : m ≡ length s = b.0 ∙ omega arith in
+    let f = room_fits room (length s) s (omega (arith, written_fits w (omega arith), length-replicate {A = ℕ} room 0)) in
+    record { answer = e.0 ∙ q ∙ rw f; buffer = e.1 ∙ b.1 ∙ splice-zeros room s ∙ rw f }
+said_written room t s out n None w e =
+    let f = room_short room (length s) s (omega (arith, w.beyond refl, length-replicate {A = ℕ} room 0)) in
+    record { answer = e.0 ∙ rw f; buffer = e.1 ∙ rw f }
 
-pub said_not : (t s out : List ℕ) (n : ℕ) → Written (zeros (length t)) t 0 s None → n ≡ 0 → out ≡ zeros (length t) → Said (length t) s n out
-unfolding whole_or_none value_of buffer_of
-said_not t s out n w z e =
-    let f = room_short (length t) (length s) s (omega (arith, w.beyond refl, length-replicate {A = ℕ} (length t) 0)) in
-    record { answer = z ∙ rw f; buffer = e ∙ rw f }
+-- what was handed over before a refusal was printed, and the refusal's line in its place
+pub untold_said :
+    (room : ℕ) (t before after : List ℕ) (n : ℕ) (r : Result ℕ Refusal)
+    → Untold room t r before
+    → MatchResult r (λ m. (n ≡ m) × (after ≡ before)) (λ e. Said room (refusal_line e) n after)
+    → Said room t n after
+untold_said room t before after n (Ok m) u e = rw (e.0, e.1) u
+untold_said room t before after n (Err q) u e = rw u at e
 
 -- the count lies within the buffer, and that many bytes of it are the text where it fits
 pub said_within : (room n : ℕ) (s out : List ℕ) → Said room s n out → n ≤ length out

@@ -23,5 +23,5 @@ unfoldable pub refusal_line : Refusal → List ℕ
 refusal_line r = line refused_form (number_of_fault r.fault ∷ r.line ∷ [])
 
 -- a program's text t, by what was handed over before a refusal is printed: the text itself, or a refusal whose line is the text
-abbrev pub Tells : (room : ℕ) (t : List ℕ) → Result ℕ Refusal → (out : List ℕ) → Type 0
-Tells room t r out = MatchResult r (λ n. Said room t n out) (λ e. refusal_line e ≡ t)
+abbrev pub Untold : (room : ℕ) (t : List ℕ) → Result ℕ Refusal → (out : List ℕ) → Type 0
+Untold room t r out = MatchResult r (λ n. Said room t n out) (λ e. refusal_line e ≡ t)

@@ -14,13 +14,11 @@ use figures::{after, first_line, take_figure};
 fn ended(rest: &[u8], count: usize) -> Option<usize>
     ensures { MatchOption result (rest.now ≡ bytes ")" → ⊥) (λ n. (n ≡ count) × (rest.now ≡ bytes ")")) }
 {
-    match rest {
-        b")" => Some(count),
-        _ => None,
-    }
+    (rest == b")".as_slice()).then_some(count)
 }
 
 // The figures of a line into a buffer: up to 64, each 0 or 1. Their count. The buffer is lent and of fixed length, since nothing may allocate.
+// A figure is narrowed by `as`: it is at most 1.
 #[tactic(auto, using(crate::proofs::SetLine::reading), unfolding(figures::specs::Bytes::bytes, common::specs::Limits::max_switches))]
 fn read_figures(line: &[u8], figures: &mut [u8; MAX_SWITCHES]) -> Option<usize>
     ensures { SetIs line.now result figures.new }

@@ -16,7 +16,7 @@ pub trait Program {
     // The text that it prints for its input.
     ghost text: { List ℕ → List ℕ };
 
-    // Leaves that text at the start of a buffer, and answers how long it is.
+    // Leaves that text at the start of a buffer, of fixed length since nothing may allocate, and answers how long it is.
     fn print(&self, input: &[u8], out: &mut [u8; MAX_TEXT]) -> usize
         ensures { IsText (text input.now) result out.new };
 }

@@ -4,34 +4,34 @@ use Rattle.std.proofs.Common.{rules, arith, None, Some, Err}
 use Rattle.common.specs.declared.Fault.TheVariants as fault
 use Rattle.common.specs.Limits.{max_rows, max_columns, max_input}
 use Rattle.programs.specs.Programs.{program_text, light_program}
-use Rattle.programs.proofs.Printing.{lighting, light_ended, told_refused, set_stops, listing_stops, lamp_stops, lamp_goes}
+use Rattle.programs.proofs.Printing.{input_long, input_short, lighting, light_ended, told_refused, set_stops, listing_stops, lamp_stops, lamp_goes}
 use Rattle.programs.proofs.print_lit.Goals as goal
 
 pub returns-in_err-fits : goal.returns-in_err-fits
 unfolding light_program
 returns-in_err-fits c =
     let s = c.args.input.now in
-    told_refused _ _ _ _ _ (light_ended s) c.from_residual.ensures (c.in_err-fits.ensures (lighting s))
+    told_refused _ _ _ _ _ (light_ended s) c.from_residual.ensures (input_long s (lighting s) _ c.in_err-fits.ensures)
 
 pub returns-in_err-setting : goal.returns-in_err-setting
 unfolding light_program
 returns-in_err-setting c =
     let s = c.args.input.now in
-    let fits = c.in_ok-fits.ensures (lighting s) in
+    let fits = input_short s (lighting s) c.in_ok-fits.ensures in
     let none : c.set_line.result ≡ None = grind arith in
     let is : c.in_err-setting.field-0.0 ≡ record { fault = fault.NotDue; line = 1 } = grind arith in
     told_refused _ _ _ _ _ (light_ended s) c.from_residual-in_err-setting.ensures
     (set_stops s fits (rw none at c.set_line.ensures) ∙ ap Err (sym is))
 
-pub load_from-requires : goal.load_from-requires
+pub load_at-requires : goal.load_at-requires
 unfolding max_input
-load_from-requires c = search rules
+load_at-requires c = search rules
 
 pub returns-in_err-x : goal.returns-in_err-x
 unfolding light_program max_rows max_columns
 returns-in_err-x c =
     let s = c.args.input.now in
-    let fits = c.in_ok-fits.ensures (lighting s) in
+    let fits = input_short s (lighting s) c.in_ok-fits.ensures in
     let some : c.set_line.result ≡ Some (c.in_ok-setting.setting, c.in_ok-setting.text) = grind arith in
     told_refused _ _ _ _ _ (light_ended s) c.from_residual-in_err-x.ensures
     (listing_stops s fits _ _ (rw some at c.set_line.ensures) _ (sym c.in_err-x.ensures.answer))
@@ -40,27 +40,27 @@ pub returns-in_err-rounds : goal.returns-in_err-rounds
 unfolding light_program max_rows max_columns
 returns-in_err-rounds c =
     let s = c.args.input.now in
-    let fits = c.in_ok-fits.ensures (lighting s) in
+    let fits = input_short s (lighting s) c.in_ok-fits.ensures in
     let some : c.set_line.result ≡ Some (c.in_ok-setting.setting, c.in_ok-setting.text) = grind arith in
     let x = c.in_ok-x.ensures in
     told_refused _ _ _ _ _ (light_ended s) c.from_residual-in_err-rounds.ensures
     (lamp_stops s fits _ _ (rw some at c.set_line.ensures) _ _ (sym x.answer) x.buffer _ (sym c.in_err-rounds.ensures.answer))
 
-pub print_readings-requires : goal.print_readings-requires
+pub invariant_of-lit : goal.invariant_of-lit
 unfolding max_rows max_columns
-print_readings-requires c =
+invariant_of-lit c =
     let s = c.args.input.now in
-    let fits = c.in_ok-fits.ensures (lighting s) in
+    let fits = input_short s (lighting s) c.in_ok-fits.ensures in
     let some : c.set_line.result ≡ Some (c.in_ok-setting.setting, c.in_ok-setting.text) = grind arith in
     let x = c.in_ok-x.ensures in
     let rounds = c.in_ok-rounds.ensures in
-    (lamp_goes s fits _ _ (rw some at c.set_line.ensures) _ _ (sym x.answer) x.buffer _ _ (sym rounds.answer) rounds.buffer).0
+    record { few = (lamp_goes s fits _ _ (rw some at c.set_line.ensures) _ _ (sym x.answer) x.buffer _ _ (sym rounds.answer) rounds.buffer).0 }
 
 pub returns : goal.returns
 unfolding light_program program_text max_rows max_columns
 returns c =
     let s = c.args.input.now in
-    let fits = c.in_ok-fits.ensures (lighting s) in
+    let fits = input_short s (lighting s) c.in_ok-fits.ensures in
     let some : c.set_line.result ≡ Some (c.in_ok-setting.setting, c.in_ok-setting.text) = grind arith in
     let x = c.in_ok-x.ensures in
     let rounds = c.in_ok-rounds.ensures in

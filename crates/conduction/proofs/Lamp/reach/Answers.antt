@@ -1,5 +1,5 @@
 -- `conduction::Lamp::reach` meets its contract: the wires up to the next four are sorted.
-use Prim.Native.Nat.{◌+◌, ◌-◌, ◌<◌, ◌≤◌}
+use Prim.Native.Nat.{◌+◌, ◌-◌, ◌*◌, ◌/◌, ◌<◌, ◌≤◌}
 use mathlib.Core.Path.{◌≡◌, refl, ap, ◌∙◌}
 use native.Mathlib.Omega.{arith}
 use lib.ListN.{length}
@@ -8,33 +8,32 @@ use Rattle.conduction.proofs.Sorting.{exchanged_all, sorted_none, sorted_pass, s
 use Rattle.conduction.proofs.Lamp.reach.Goals as goal
 use Rattle.conduction.proofs.Lamp.reach.Goals.{then-not-all_off, else-not-all_off}
 
-pub loop-at-init : goal.loop-at-init
-loop-at-init c = (refl, omega arith, c.requires, sorted_none _ _ _ _ (omega arith) (λ k p q. absurd (omega arith)))
+pub loop-i-init : goal.loop-i-init
+loop-i-init c = (refl, c.requires, sorted_none _ _ _ _ (omega arith) (λ k p q. absurd (omega arith)))
 
-pub loop-at-preserved : goal.loop-at-preserved
-loop-at-preserved c =
-    let inv = c.loop-at.invariant in
+pub loop-i-preserved : goal.loop-i-preserved
+loop-i-preserved c =
+    let inv = c.loop-i.invariant in
+    let next : 4 * (c.loop-i.i + 1) ≡ 4 * c.loop-i.i + 4 = omega arith in
     elim c.if-not-all_off.branch [
       | then-not-all_off w ↦
           let sorting = w.sort-lit in (
             ap length w.keys-is ∙ sorting.auto.keys ∙ inv.0,
-            c.loop-at-test.true,
             rw w.keys-is
                 (λ k h.
-                exchanged_all (λ w. w.adds < length c.args.self.cells.now) _ _ _ sorting.ensures.exchanged inv.2 k
+                exchanged_all (λ w. w.adds < length c.args.self.cells.now) _ _ _ sorting.ensures.exchanged inv.1 k
                 (omega (arith, h, sorting.auto.keys))),
-            rw (w.keys-is, w.lit-is) (sorted_on _ _ _ _ _ _ inv.3 _ _ _ inv.0 (omega arith) sorting.ensures),
+            rw (next, w.keys-is, w.lit-is) (sorted_on _ _ _ _ _ _ inv.2 _ _ _ inv.0 (omega arith) sorting.ensures),
           )
       | else-not-all_off w ↦ (
         ap length w.keys-is ∙ inv.0,
-        c.loop-at-test.true,
-        rw w.keys-is inv.2,
-        rw (w.keys-is, w.lit-is)
-            (sorted_pass _ _ _ _ _ _ inv.3 _ (omega arith)
+        rw w.keys-is inv.1,
+        rw (next, w.keys-is, w.lit-is)
+            (sorted_pass _ _ _ _ _ _ inv.2 _ (omega arith)
             (λ k p q.
-            let at = c.loop-at.at in
-            let keys = c.loop-at.keys in
-            let in_part : at + 4 ≤ length keys = omega (arith, inv.0, c.loop-at-test.true) in
+            let at = (4 * c.loop-i.i) in
+            let keys = c.loop-i.keys in
+            let in_part : at + 4 ≤ length keys = omega (arith, inv.0) in
             let there : at + (k - at) ≡ k = omega arith in
             let entry = part_entry keys at (at + 4) (k - at) no_key (omega arith) in
             rw (entry, there) at (c.all_off.ensures w.if-not-all_off.false (k - at) (omega (arith, part_long keys at (at + 4) in_part))))),
@@ -43,5 +42,6 @@ loop-at-preserved c =
 
 pub returns : goal.returns
 returns c =
-    let inv = c.loop-at.invariant in
-    sorted_on _ _ _ _ _ _ inv.3 _ _ _ inv.0 inv.1 c.sort.ensures
+    let inv = c.loop-i.invariant in
+    let all : c.loop-i.i ≡ length c.args.keys.now / 4 = omega arith in
+    rw inv.0 at (sorted_on _ _ _ _ _ _ (rw all at inv.2) _ _ _ inv.0 (omega (arith, inv.0)) c.sort.ensures)

@@ -1,16 +1,12 @@
 -- `conduction::Lamp::reach` meets its contract: the wires up to the next four are sorted.
-use Prim.Native.Nat.{◌-◌, ◌≤◌}
+use Prim.Native.Nat.{◌*◌}
 use mathlib.Core.Path.{◌≡◌}
 use lib.ListN.{length}
 use Rattle.conduction.specs.Wires.{passes, Meeting, Sorted}
 use Rattle.conduction.proofs.Lamp.reach.Given as goal
 
-abbrev pub invariant-loop-at : goal.invariant-loop-at
-invariant-loop-at l =
+abbrev pub invariant-loop-i : goal.invariant-loop-i
+invariant-loop-i l =
     (length l.keys ≡ length l.initial.keys)
-    × (l.at ≤ l.end)
     × Meeting l.self l.keys
-    × Sorted (λ k. passes l.self k.adds) 0 l.initial.keys l.keys l.lit l.at
-
-abbrev pub decreases-loop-at : goal.decreases-loop-at
-decreases-loop-at l = l.end - l.at
+    × Sorted (λ k. passes l.self k.adds) 0 l.initial.keys l.keys l.lit (4 * l.i)

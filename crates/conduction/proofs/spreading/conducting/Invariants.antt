@@ -1,13 +1,13 @@
 -- `conduction::spreading::conducting` meets its contract: the codes before the next one are in the table.
-use Prim.Native.Nat.{ℕ}
+use Prim.Native.Nat.{ℕ, ◌+◌, ◌*◌, ◌<◌}
 use mathlib.Core.Path.{◌≡◌}
-use mathlib.Core.Bool.{◌&&◌, false}
+use mathlib.Core.Bool.{false}
 use lib.ListN.{length, get_or}
-use lib.Dec.{ltb}
 use Rattle.cells.specs.Code.{cell_of}
 use Rattle.cells.specs.Conducts.{conducts}
 use Rattle.conduction.proofs.spreading.conducting.Given as goal
 
 abbrev pub invariant-loop-code : goal.invariant-loop-code
 invariant-loop-code l =
-    (length l.on ≡ 256) × ((k : ℕ) → get_or l.on k false ≡ (ltb k l.code && conducts l.setting (cell_of k)))
+    (length l.switched ≡ 2 + 2 * length l.setting)
+    × ((k : ℕ) → k < l.code → get_or l.switched k false ≡ conducts l.setting (cell_of k))

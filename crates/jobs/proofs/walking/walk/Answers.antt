@@ -1,6 +1,6 @@
 -- `jobs::walking::walk` meets its contract.
 use native.Mathlib.Omega.{arith}
-use Rattle.std.proofs.Common.{sym, ap, ◌∙◌, [], Err}
+use Rattle.std.proofs.Common.{sym, ap, ◌∙◌, Err}
 use Rattle.common.specs.Limits.{max_outputs}
 use Rattle.jobs.proofs.Read.{job_given}
 use Rattle.jobs.proofs.Walks.{walk_refused, walk_falls, walk_unset, walk_below, walk_found}
@@ -29,10 +29,9 @@ bounds-job-output c =
 pub walk_value-requires : goal.walk_value-requires
 walk_value-requires c =
     let g = job_given _ _ _ c.in_ok-job.ensures.job c.in_ok-job.ensures.table in
-    rw (c.diagram-diagram.ensures []) (walk_falls _ _ _ _ g.accepts g.is g.front g.accepted_facts.facts)
+    walk_falls _ _ _ _ g.accepts g.is g.front _ c.diagram-diagram.ensures g.accepted_facts.facts
 
 pub returns : goal.returns
 returns c =
     let g = job_given _ _ _ c.in_ok-job.ensures.job c.in_ok-job.ensures.table in
-    walk_found _ _ _ _ g.accepts g.is g.front _ _ (sym c.is_wrong.ensures ∙ c.if-is_wrong.false) _
-    (rw (← c.diagram-diagram.ensures []) c.walk_value.ensures)
+    walk_found _ _ _ _ g.accepts g.is g.front _ _ (sym c.is_wrong.ensures ∙ c.if-is_wrong.false) _ c.diagram-diagram.ensures _ c.walk_value.ensures

@@ -19,21 +19,19 @@ pub returns-in_err-map_err : goal.returns-in_err-map_err
 returns-in_err-map_err c =
     let v = c.loop-f.invariant in
     let q : c.from_residual.result ≡ Err c.in_err-map_err.field-0.0 = search rules in
-    rw q (going_fault v c.cell_line-read.ensures c.in-Cell.is _ _ (c.cell_fault.ensures _ v.counted) (search rules))
+    rw q (going_fault v c.cell_line-read.ensures c.in-Cell.is _ _ c.cell_fault.ensures (search rules))
 
 pub place-place-requires : goal.place-place-requires
 place-place-requires c =
     let z = ranged c.args.s in
     let v = c.loop-f.invariant in
-    let tested = c.cell_fault.ensures _ v.counted in
-    let w = going_right v c.cell_line-read.ensures c.in-Cell.is _ tested (search rules) in
+    let w = going_right v c.cell_line-read.ensures c.in-Cell.is _ c.cell_fault.ensures (search rules) in
     (w.row_in, w.column_in)
 
 pub overflow_cast-to_code : goal.overflow_cast-to_code
 overflow_cast-to_code c =
     let v = c.loop-f.invariant in
-    let tested = c.cell_fault.ensures _ v.counted in
-    let w = going_right v c.cell_line-read.ensures c.in-Cell.is _ tested (search rules) in
+    let w = going_right v c.cell_line-read.ensures c.in-Cell.is _ c.cell_fault.ensures (search rules) in
     omega (arith, w.code_small, c.to_code.ensures)
 
 pub overflow_add-count : goal.overflow_add-count
@@ -41,8 +39,7 @@ unfolding max_rows max_columns
 overflow_add-count c =
     let z = ranged c.args.s in
     let v = c.loop-f.invariant in
-    let tested = c.cell_fault.ensures _ v.counted in
-    let w = going_right v c.cell_line-read.ensures c.in-Cell.is _ tested (search rules) in
+    let w = going_right v c.cell_line-read.ensures c.in-Cell.is _ c.cell_fault.ensures (search rules) in
     omega (arith, w.inside, z.cells_most, c.place-place.ensures)
 
 pub overflow_add-left : goal.overflow_add-left
@@ -57,5 +54,4 @@ loop-f-smaller c = cell_shorter c.cell_line-read.ensures c.in-Cell.is
 pub loop-f-preserved : goal.loop-f-preserved
 loop-f-preserved c =
     let v = c.loop-f.invariant in
-    let tested = c.cell_fault.ensures _ v.counted in
-    going_more v c.cell_line-read.ensures c.in-Cell.is _ tested (search rules) c.place-place.ensures c.to_code.ensures c.store.ensures
+    going_more v c.cell_line-read.ensures c.in-Cell.is _ c.cell_fault.ensures (search rules) c.place-place.ensures c.to_code.ensures c.store.ensures

@@ -5,7 +5,7 @@ use borrow.Author.Rules.{rules}
 use lib.ListN.{length}
 use Rattle.std.specs.Prelude.{Ok, Err}
 use Rattle.common.specs.Limits.{max_outputs, max_input}
-use Rattle.common.specs.Outcome.{◌then◌}
+use Rattle.common.specs.Outcome.{◌then◌, buffer_of}
 use Rattle.common.specs.Fault.{handed, fault_of, faults}
 use Rattle.common.proofs.Faults.{handed_on}
 use Rattle.forms.proofs.Told.{size_due, size_not}
@@ -14,7 +14,7 @@ use Rattle.common.specs.declared.Fault.TheVariants as fault
 use Rattle.listings.specs.Loader.{sizes_in}
 use Rattle.listings.specs.Loading.{fitted}
 use Rattle.listings.proofs.Steps.{ranged}
-use Rattle.listings.proofs.Loads.{first_missing, first_fault, first_right, fitted_short, fitted_head, fitted_cells, refused_as}
+use Rattle.listings.proofs.Loads.{first_missing, first_fault, first_right, outs_stop, outs_done, fitted_short, fitted_head, fitted_cells}
 use Rattle.listings.proofs.loading.load_lines.Goals as goal
 
 pub returns-in_default-clause-answer : goal.returns-in_default-clause-answer
@@ -40,7 +40,7 @@ load_cells-requires c = (omega arith, c.requires.1)
 pub returns-in_err-left-clause-answer : goal.returns-in_err-left-clause-answer
 returns-in_err-left-clause-answer c =
     let d = size_due c.size_line-read.ensures c.in-Size.is in
-    let right = first_right c.args.text.now c.args.line (length c.args.cells.now) c.in-Size.f _ d c.in_ok-s.s (search rules) in
+    let right = first_right c.args.text.now c.args.line (length c.args.cells.now) c.in-Size.f _ d c.in_ok-s.s.form (search rules) in
     let q : c.from_residual-in_err-left.result ≡ Err c.in_err-left.field-0.0 = search rules in
     q ∙ sym (ap (handed (λ w. w.head)) right ∙ handed_on (λ x. x) (λ w. w.head) _ _ _ c.in_err-left.ensures)
 
@@ -53,34 +53,33 @@ pub returns-in_err-outs-clause-answer : goal.returns-in_err-outs-clause-answer
 returns-in_err-outs-clause-answer c =
     let room = length c.args.cells.now in
     let d = size_due c.size_line-read.ensures c.in-Size.is in
-    let right = first_right c.args.text.now c.args.line room c.in-Size.f _ d c.in_ok-s.s (search rules) in
+    let right = first_right c.args.text.now c.args.line room c.in-Size.f _ d c.in_ok-s.s.form (search rules) in
     let k = c.in_ok-left.ensures in
     let q : c.from_residual-in_err-outs.result ≡ Err c.in_err-outs.field-0.0 = search rules in
     q
     ∙ sym
-    (ap (handed (λ w. w.head)) (right ∙ ap (λ o. o then λ x. fitted room x) k.same)
-    ∙ refused_as (λ a. a) (λ w. w.head) _ _ (c.in_err-outs.ensures k.codes room))
+    (ap (handed (λ w. w.head)) (right ∙ ap (λ o. o then λ x. fitted room x) k.same) ∙ outs_stop c.in_ok-s.s.form k.codes room _ _ _ c.in_err-outs.ensures)
 
 pub returns-then-cells-clause-answer : goal.returns-then-cells-clause-answer
 unfolding handed fault_of faults
 returns-then-cells-clause-answer c =
     let room = length c.args.cells.now in
     let d = size_due c.size_line-read.ensures c.in-Size.is in
-    let right = first_right c.args.text.now c.args.line room c.in-Size.f _ d c.in_ok-s.s (search rules) in
+    let right = first_right c.args.text.now c.args.line room c.in-Size.f _ d c.in_ok-s.s.form (search rules) in
     let k = c.in_ok-left.ensures in
-    let same = right ∙ ap (λ o. o then λ x. fitted room x) k.same ∙ c.in_ok-outs.ensures k.codes room in
-    ap (λ r. Err r) c.at.ensures ∙ sym (ap (handed (λ w. w.head)) (same ∙ fitted_short c.in_ok-s.s k.codes c.in_ok-outs.outs room (omega (arith, c.cells.ensures))))
+    let same = right ∙ ap (λ o. o then λ x. fitted room x) k.same ∙ outs_done c.in_ok-s.s.form k.codes room _ _ _ c.in_ok-outs.ensures in
+    ap (λ r. Err r) c.at.ensures ∙ sym (ap (handed (λ w. w.head)) (same ∙ fitted_short c.in_ok-s.s.form k.codes c.in_ok-outs.outs room (omega (arith, c.cells.ensures))))
 
 pub returns-clause-answer : goal.returns-clause-answer
 unfolding max_outputs
 returns-clause-answer c =
     let room = length c.args.cells.now in
     let d = size_due c.size_line-read.ensures c.in-Size.is in
-    let right = first_right c.args.text.now c.args.line room c.in-Size.f _ d c.in_ok-s.s (search rules) in
+    let right = first_right c.args.text.now c.args.line room c.in-Size.f _ d c.in_ok-s.s.form (search rules) in
     let k = c.in_ok-left.ensures in
-    let same = right ∙ ap (λ o. o then λ x. fitted room x) k.same ∙ c.in_ok-outs.ensures k.codes room in
+    let same = right ∙ ap (λ o. o then λ x. fitted room x) k.same ∙ outs_done c.in_ok-s.s.form k.codes room _ _ _ c.in_ok-outs.ensures in
     ap (λ x. Ok x) c.record.ensures
-    ∙ fitted_head c.in_ok-s.s k.codes c.in_ok-outs.outs room (omega arith) (omega (arith, c.cells.ensures))
+    ∙ fitted_head c.in_ok-s.s.form k.codes c.in_ok-outs.outs room (omega arith) (omega (arith, c.cells.ensures))
     ∙ sym (ap (handed (λ w. w.head)) same)
 
 pub returns-clause-filled : goal.returns-clause-filled
@@ -88,8 +87,8 @@ unfolding max_outputs
 returns-clause-filled c =
     let room = length c.args.cells.now in
     let d = size_due c.size_line-read.ensures c.in-Size.is in
-    let right = first_right c.args.text.now c.args.line room c.in-Size.f _ d c.in_ok-s.s (search rules) in
+    let right = first_right c.args.text.now c.args.line room c.in-Size.f _ d c.in_ok-s.s.form (search rules) in
     let k = c.in_ok-left.ensures in
-    let same = right ∙ ap (λ o. o then λ x. fitted room x) k.same ∙ c.in_ok-outs.ensures k.codes room in
-    let h = fitted_cells c.in_ok-s.s k.codes c.in_ok-outs.outs room (omega arith) (omega (arith, c.cells.ensures)) k.holds k.short in
-    (h.0, same ∙ h.1, h.2)
+    let same = right ∙ ap (λ o. o then λ x. fitted room x) k.same ∙ outs_done c.in_ok-s.s.form k.codes room _ _ _ c.in_ok-outs.ensures in
+    fitted_cells c.in_ok-s.s.form k.codes c.in_ok-outs.outs room (omega arith) (omega (arith, c.cells.ensures)) k.holds k.short
+    ∙ ap (buffer_of room (λ w. w.codes)) (sym same)

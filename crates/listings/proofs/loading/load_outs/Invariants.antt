@@ -4,4 +4,4 @@ use Rattle.listings.proofs.Stands.{StandsRead}
 use Rattle.listings.proofs.loading.load_outs.Given as goal
 
 abbrev pub invariant-loop-j : goal.invariant-loop-j
-invariant-loop-j l = StandsRead l.from.text.now l.s l.from.line l.outs l.text l.j
+invariant-loop-j l = StandsRead l.from.text.now l.s l.from.line l.out-items l.text l.j

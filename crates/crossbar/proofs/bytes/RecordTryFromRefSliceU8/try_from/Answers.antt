@@ -1,13 +1,18 @@
 -- `crossbar::bytes::Record::try_from` meets its contract: the output rows are the table of the numbers from place 4 on.
-use Prim.Native.Nat.{ℕ, ◌+◌}
-use mathlib.Core.Path.{◌≡◌}
-use mathlib.Core.List.{List}
+use Prim.Native.Nat.{ℕ, ◌+◌, ◌<◌}
+use mathlib.Core.Path.{◌≡◌, ◌∙◌}
+use native.Mathlib.Omega.{arith}
+use mathlib.Core.List.{List, []}
 use Rattle.std.proofs.Common.{rules}
+use Rattle.std.specs.Int.{w16, from_le_bytes}
+use lib.ListN.{get_or}
 use Rattle.common.specs.Limits.{max_outputs}
 use Rattle.common.specs.Lists.{tab}
 use Rattle.cells.specs.declared.Crossbar.{Crossbar}
 use Rattle.crossbar.specs.Bytes.{record_length, record_from, number_at}
 use Rattle.common.proofs.FromFn.{made_tab}
+use Rattle.common.proofs.Lists.{tab_agree}
+use Rattle.crossbar.proofs.Pairs.{number_from}
 use Rattle.crossbar.proofs.Records.{one_is}
 use Rattle.crossbar.proofs.bytes.RecordTryFromRefSliceU8.try_from.Goals as goal
 
@@ -26,9 +31,18 @@ pub returns-in-Some : goal.returns-in-Some
 unfolding record_length max_outputs
 returns-in-Some c =
     let s = c.args.s.now in
-    let outs = made_tab 0 _ (λ j. number_at s (4 + j)) _ (λ q i y k. search rules) _ _ c.from_fn.ensures.items in
-    let x =
-    record_is s _ _ _ _ _ c.number_at.ensures c.number_at-in-Some.ensures c.number_at-in-Some-2.ensures c.number_at-in-Some-3.ensures outs
-    in
     let split = c.in-Some.ensures.cases in
-    one_is s c.in-Some.past.now _ (split.0) (search rules) (search rules) x
+    let ps = c.as_chunks.result.0.now in
+    let read : (i : ℕ) → i < 4 + max_outputs → from_le_bytes w16 (get_or ps i []) ≡ number_at s i =
+    λ i below. number_from s record_length c.in-Some.record.now ps i split.0 (search rules) c.as_chunks.ensures.front (omega arith)
+    in
+    let made = made_tab 0 _ (λ j. from_le_bytes w16 (get_or ps (4 + j) [])) _ (λ q i y k. search rules) _ _ c.from_fn.ensures.items in
+    let x =
+    record_is s _ _ _ _ _
+    (c.from_le_bytes.ensures ∙ read 0 (omega arith))
+    (c.from_le_bytes-in-Some.ensures ∙ read 1 (omega arith))
+    (c.from_le_bytes-in-Some-2.ensures ∙ read 2 (omega arith))
+    (c.from_le_bytes-in-Some-3.ensures ∙ read 3 (omega arith))
+    (made ∙ tab_agree max_outputs _ _ (λ k below. read (4 + k) (omega arith)))
+    in
+    one_is s c.in-Some.past.now _ split.0 (search rules) (search rules) x
