@@ -4,7 +4,7 @@ use mathlib.Core.Path.{◌≡◌, refl, sym, ap, ◌∙◌}
 use mathlib.Core.List.{List, []}
 use native.Mathlib.Omega.{arith}
 use lib.ListN.{length}
-use Rattle.std.specs.Prelude.{Result, Ok, Err, IfOk, MatchResult}
+use Rattle.std.specs.Prelude.{Result, Ok, Err}
 use Rattle.common.specs.declared.Refusal.{Refusal}
 use Rattle.common.specs.Fault.{faults, fault_of, handed}
 use Rattle.common.specs.Lists.{zeros, padded}
@@ -16,44 +16,41 @@ use Rattle.conduction.proofs.Light.{light_answers}
 use Rattle.crossbar.specs.Bytes.{record_from, pairs}
 use Rattle.crossbar.specs.declared.bytes.Record.{Record}
 use Rattle.crossbar.specs.Records.{RecordIs}
-use Rattle.crossbar.specs.Host.{packed, packed_from, Unanswered, of_record}
+use Rattle.crossbar.specs.Host.{packed, packed_from, of_record}
 use Rattle.crossbar.proofs.Records.{not_held, was_held, none_held, one_held}
 use Rattle.crossbar.proofs.Numbers.{packed_is}
 use Rattle.crossbar.proofs.Lent.{lent_numbers, lent_most, light_lent}
 use Rattle.crossbar.proofs.Pairs.{pairs-padded, no_numbers}
 
--- a call that reads a record, and what it hands over: where the slice holds none, and where it holds one and the call beneath answers
+-- a call that reads a record: where the slice holds none, and where it holds one and the call beneath answers
 module _ {A : Type 0} (value : A → ℕ) (bytes : A → List ℕ) (s : List ℕ) (rest : Crossbar → Outcome A) (room : ℕ) where
-  pub none_filled : (e : Refusal) (after : List ℕ) → RecordIs s (Err e) → Unanswered (of_record s (rest (record_from s))) value bytes room (Err e) after
-  unfolding handed fault_of faults
-  none_filled e after h =
+  pub none_answered :
+      (e : Refusal) (after : List ℕ)
+      → RecordIs s (Err e)
+      → after ≡ zeros room
+      → Answered (of_record s (rest (record_from s))) (handed value) bytes room (Err e) after
+  unfolding handed fault_of faults buffer_of
+  none_answered e after h z =
       let no = not_held s e h in
-      rw (none_held s (rest (record_from s)) no.0) (record { answer = ap Err no.1; buffer = tt })
+      rw (none_held s (rest (record_from s)) no.0) (record { answer = ap Err no.1; buffer = z })
 
-  pub one_filled :
+  pub one_answered :
       (x : Record) (r : Result ℕ Refusal) (after : List ℕ)
       → RecordIs s (Ok x)
-      → r ≡ handed value (rest x.0)
-      → IfOk r (λ n. after ≡ buffer_of room bytes (rest x.0))
-      → Unanswered (of_record s (rest (record_from s))) value bytes room r after
-  one_filled x r after h a f =
+      → Answered (rest x.0) (handed value) bytes room r after
+      → Answered (of_record s (rest (record_from s))) (handed value) bytes room r after
+  one_answered x r after h a =
       let found = was_held s x h in
-      rw (one_held s (rest (record_from s)) found.0, ← found.1) (record { answer = a; buffer = f })
+      rw (one_held s (rest (record_from s)) found.0, ← found.1) a
 
--- its answer, and its buffer, which is cleared after a refusal
+-- its answer as one number
 pub answered :
-    {A : Type 0} {P : A → Type 0} {b : ℕ} (value : A → ℕ) (bytes : A → List ℕ) (room : ℕ) (o : Outcome A) (v : Result ℕ Refusal) (r : ℕ) (filled after : List ℕ)
+    {A : Type 0} {P : A → Type 0} {b : ℕ} (value : A → ℕ) (bytes : A → List ℕ) (room : ℕ) (o : Outcome A) (v : Result ℕ Refusal) (r : ℕ) (after : List ℕ)
     → EndsWithin P b o
-    → Unanswered o value bytes room v filled
-    → length filled ≡ room
+    → Answered o (handed value) bytes room v after
     → r ≡ packed_from v
-    → MatchResult v (λ n. after ≡ filled) (λ e. after ≡ zeros (length filled))
     → Answered o (packed value) bytes room r after
-unfolding handed buffer_of
-answered value bytes room (done a) v r filled after ends h long f cleared =
-    record { answer = f ∙ packed_is value (done a) v ends h.answer; buffer = (rw h.answer at cleared) ∙ (rw h.answer at h.buffer) }
-answered value bytes room (refused k l) v r filled after ends h long f cleared =
-    record { answer = f ∙ packed_is value (refused k l) v ends h.answer; buffer = (rw h.answer at cleared) ∙ ap zeros long }
+answered value bytes room o v r after ends h f = record { answer = f ∙ packed_is value o v ends h.answer; buffer = h.buffer }
 
 -- the bytes of the numbers that light left
 pairs_left :

@@ -1,10 +1,10 @@
 -- The five calls of the host library. Document 01, "The services": "The same calls are offered to the buyer's host program, written in
 -- C, on numbers and byte slices." Each answers one number: the refusal's number times 2 to the 56th, plus the line; or, where nothing is
 -- refused, the call's value. Parts.antt says that these are read back from it.
-use Rattle.std.specs.Prelude.{ℕ, ◌+◌, ◌*◌, ◌/◌, ◌^◌, ◌≡◌, not, List, [], ◌∷◌, length, ltb, Result, Ok, Err, IfOk}
+use Rattle.std.specs.Prelude.{ℕ, ◌+◌, ◌*◌, ◌/◌, ◌^◌, ◌≡◌, not, List, [], ◌∷◌, length, ltb, Result, Ok, Err}
 use Rattle.common.specs.declared.Refusal.{Refusal}
-use Rattle.common.specs.Fault.{number_of_fault, handed}
-use Rattle.common.specs.Outcome.{Outcome, done, refused, ◌then◌, ◌when◌, lowest, unless, buffer_of, Answered}
+use Rattle.common.specs.Fault.{number_of_fault}
+use Rattle.common.specs.Outcome.{Outcome, done, refused, ◌then◌, ◌when◌, lowest, unless, Answered}
 use Rattle.cells.specs.Record.{Whole, size}
 use Rattle.jobs.specs.Job.{walk}
 use Rattle.placement.specs.Map.{map_job}
@@ -26,11 +26,6 @@ packed value (refused k n) = k * number_unit + n
 unfoldable pub packed_from : Result ℕ Refusal → ℕ
 packed_from (Ok value) = value
 packed_from (Err r) = number_of_fault r.fault * number_unit + r.line
-
--- what a call for a buffer of `room` bytes hands over before it is answered: what that buffer holds is said only where nothing is refused
-pub record Unanswered {A : Type 0} (o : Outcome A) (value : A → ℕ) (bytes : A → List ℕ) (room : ℕ) (r : Result ℕ Refusal) (after : List ℕ) : Type 0 where
-  pub answer : r ≡ handed value o
-  pub buffer : IfOk r (λ n. after ≡ buffer_of room bytes o)
 
 -- a crossbar for two buffers: ground 14 also where the record's is shorter than a record, line 0
 unfoldable pub for_record : ℕ → Outcome Whole → Outcome Whole

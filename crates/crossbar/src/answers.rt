@@ -23,15 +23,13 @@ pub fn pack(answer: Result<u64, Refusal>) -> u64
     }
 }
 
-// The answer of a call that fills a buffer: after a refusal the whole buffer holds zeros, by a `fill` of its own (conduction/src/lighting.rt says why).
-pub fn answer(out: &mut [u8], filled: Result<u64, Refusal>) -> u64
-    ensures answer { result ≡ packed_from filled }
-    ensures buffer { MatchResult filled (λ v. out.new ≡ out.old) (λ e. out.new ≡ zeros (length out.old)) }
+// A refusal: its answer, and zeros in the whole buffer, by a `fill` of its own (conduction/src/lighting.rt says why).
+pub fn refuse(out: &mut [u8], refusal: Refusal) -> u64
+    ensures answer { result ≡ packed_from (Err refusal) }
+    ensures buffer { out.new ≡ zeros (length out.old) }
 {
-    if filled.is_err() {
-        out.fill(0);
-    }
-    pack(filled)
+    out.fill(0);
+    pack(Err(refusal))
 }
 
 // A crossbar for two buffers, of which the cells' buffer holds the cells: ground 14 also where the record's buffer is shorter than a
@@ -52,8 +50,8 @@ pub fn deliver(made: Result<Crossbar, Refusal>, head: &mut [u8], cells: &mut [u8
         }
         Ok(_) => {
             cells.fill(0);
-            answer(head, Err(Fault::NoRoom.at(0)))
+            refuse(head, Fault::NoRoom.at(0))
         }
-        Err(refusal) => answer(head, Err(refusal)),
+        Err(refusal) => refuse(head, refusal),
     }
 }
