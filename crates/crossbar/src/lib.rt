@@ -54,7 +54,7 @@ fn light_bytes(head: &[u8], cells: &[u8], setting: &[u8], firsts: &mut [u8]) -> 
     let room = wires.min(firsts.len() / 2);
     let rounds = conduction::lighting::light(x, cells, setting, &mut numbers[..room]);
     bytes::write_numbers(firsts, &numbers[..room]);
-    Ok(u64::from(rounds?))
+    rounds.map(u64::from)
 }
 
 // Light: record, cells and setting in; the first round of every wire and the count of rounds out.
