@@ -1,13 +1,18 @@
 -- Codes and cells: the cell of a code by cases, that each code has one cell and each cell one code, and when the cell of a code conducts.
-use Prim.Native.Nat.{ℕ, ◌+◌, ◌-◌, ◌*◌, ◌/◌, ◌%◌}
+use Prim.Native.Nat.{ℕ, ◌+◌, ◌-◌, ◌*◌, ◌/◌, ◌%◌, ◌≤◌, ◌<◌}
 use mathlib.Core.Path.{◌≡◌, refl, ap, ◌∙◌}
 use mathlib.Core.Logic.{⊎_elim}
 use native.Mathlib.Omega.{arith}
+use native.Mathlib.Nat.{pos_of_ne-zero}
 use borrow.Author.Tests.{eq-eqb, ne_eqb}
 use Rattle.std.proofs.lemmas.Bool.{cases_eq}
 use Rattle.cells.specs.declared.Cell.{Cell}
 use Rattle.cells.specs.declared.Cell.TheVariants.{Off, On, Yes, No}
 use Rattle.cells.specs.Code.{code_of, cell_of}
+use lib.Dec.{eqb}
+use lib.ListN.{get_or}
+use mathlib.Core.List.{List}
+use Rattle.cells.specs.Conducts.{conducts}
 
 pub cell_off : (k : ℕ) → k ≡ 0 → cell_of k ≡ Off
 unfolding cell_of
@@ -44,3 +49,26 @@ cell_code k =
     (cases_eq (k % 2) 0))
     (cases_eq k 1))
     (cases_eq k 0)
+
+-- when the cell of a code conducts: a code below 2 where it is that of on, and a code of switch k / 2 − 1 by that switch's value
+module _ (setting : List ℕ) (k : ℕ) where
+  pub conducts_constant : k < 2 → eqb k 1 ≡ conducts setting (cell_of k)
+  unfolding conducts
+  conducts_constant h =
+      ⊎_elim
+      (λ (e : k ≡ 0). rw (cell_off k e) (ne_eqb k 1 (λ (z : k ≡ 1). omega arith)))
+      (λ (e : k ≡ 0 → ⊥). let one : k ≡ 1 = omega (arith, pos_of_ne-zero e) in rw (cell_on k one) (eq-eqb k 1 one))
+      (cases_eq k 0)
+
+  pub conducts_even : (x : ℕ) → 2 ≤ k → x ≡ get_or setting (k / 2 - 1) 0 → k % 2 ≡ 0 → eqb x 1 ≡ conducts setting (cell_of k)
+  unfolding conducts
+  conducts_even x h e even =
+      let at : (k - 2) / 2 ≡ k / 2 - 1 = omega arith in
+      rw (cell_yes k (λ (z : k ≡ 0). omega arith) even, at, e)
+
+  pub conducts_odd : (x : ℕ) → 2 ≤ k → x ≡ get_or setting (k / 2 - 1) 0 → (k % 2 ≡ 0 → ⊥) → eqb x 0 ≡ conducts setting (cell_of k)
+  unfolding conducts
+  conducts_odd x h e odd =
+      let one : k % 2 ≡ 1 = ⊎_elim (λ (z : k % 2 ≡ 0). absurd (odd z)) (λ z. omega arith) (cases_eq (k % 2) 0) in
+      let at : (k - 3) / 2 ≡ k / 2 - 1 = omega arith in
+      rw (cell_no k (λ (z : k ≡ 1). omega arith) odd, at, e)

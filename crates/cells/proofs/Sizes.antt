@@ -86,6 +86,19 @@ pub cells_fit_short : (x : Crossbar) (cells : List ℕ) → length cells < size 
 unfolding cells_fit
 cells_fit_short x cells h = rw (lt-leb (size x) (length cells) h)
 
+-- the six tests of ground 12 on a record, and their outcomes
+pub sound_by :
+    (x : Crossbar) (cells : List ℕ) (a b c d e f : Bool)
+    → in_range x.rows x.columns x.switches x.outputs ≡ a
+    → leb (x.rows * x.columns) (length cells) ≡ b
+    → all_of (λ k. eqb k 0) (drop (x.rows * x.columns) cells) ≡ c
+    → codes_low x.switches (take (x.rows * x.columns) cells) ≡ d
+    → all_of (λ o. ltb o x.rows) (take x.outputs x.outs) ≡ e
+    → all_of (λ o. eqb o 0) (drop x.outputs x.outs) ≡ f
+    → sound x cells ≡ a && b && c && d && e && f
+unfolding sound size
+sound_by x cells a b c d e f ea eb ec ed ee ef = rw (sound, ea, eb, ec, ed, ee, ef)
+
 -- a sound crossbar, as plain facts
 pub record Sound (x : Crossbar) (cells : List ℕ) : Type 0 where
   pub range : in_range x.rows x.columns x.switches x.outputs ≡ true

@@ -4,10 +4,11 @@ use mathlib.Core.Path.{◌≡◌, refl}
 use mathlib.Core.List.{List}
 use native.Mathlib.Omega.{arith}
 use Rattle.std.specs.Prelude.{Result, Ok, Err, IfErr, MatchResult}
+use Rattle.std.specs.Result.{result_unwrap_or}
 use Rattle.common.specs.declared.Fault.{Fault}
 use Rattle.common.specs.declared.Refusal.{Refusal}
 use Rattle.common.specs.Lists.{zeros}
-use Rattle.common.specs.Outcome.{Outcome, done, refused, ◌then◌, unless, buffer_of, Answered}
+use Rattle.common.specs.Outcome.{Outcome, done, refused, ◌then◌, unless, value_of, buffer_of, Answered}
 use Rattle.common.specs.Fault.{number_of_fault, faults, fault_of, tested, handed}
 
 -- the number of the fault of a number
@@ -36,6 +37,12 @@ pub handed_ok : {A B : Type 0} (f : A → B) (o : Outcome A) (b : B) → handed 
 unfolding handed
 handed_ok f (done a) b e = (a, refl, cc)
 handed_ok f (refused k l) b e = absurd cc
+
+-- what is handed over, with z in place of a refusal: the outcome's value, and z where it is refused
+pub handed_value : {A B : Type 0} (f : A → B) (o : Outcome A) (z : B) → result_unwrap_or (handed f o) z ≡ value_of z f o
+unfolding handed value_of
+handed_value f (done a) z = refl
+handed_value f (refused k l) z = refl
 
 -- a refusal was handed over: it is handed over too by what goes on from that outcome
 pub handed_on :

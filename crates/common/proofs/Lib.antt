@@ -1,4 +1,5 @@
 pub mod Lists
+pub mod Tables
 pub mod Outcome
 pub mod Within
 pub mod Faults

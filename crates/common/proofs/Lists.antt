@@ -12,7 +12,7 @@ use lib.Seq.{ext_get_or, get_or-append-add, get_or_at, take_at, set_at, append_s
 use lib.Dec.{eqb}
 use borrow.Author.Tests.{eqb-true, eq-eqb}
 use Rattle.std.proofs.lemmas.Bool.{and_from, and_parts, false_from_ne_true, or_cases, or_left, or_right}
-use Rattle.std.proofs.lemmas.List.Recursion.{and_at, and_from_places, and_set, or_at}
+use Rattle.std.proofs.lemmas.List.Recursion.{and_at, and_from_places, and_set}
 use Rattle.common.specs.Lists.{bit, zeros, padded, tab, grid, some_below, all_of, any_of, same}
 
 pub bit_one : (b : Bool) → bit b ≡ 1 → b ≡ true
@@ -113,12 +113,14 @@ pub all_of_at : (f : ℕ → Bool) (l : List ℕ) (i : ℕ) → all_of f l ≡ t
 unfolding all_of
 all_of_at f l i h k = and_at (all_of f) f refl (λ _ _. refl) l i 0 k h
 
-pub any_of_at : {A : Type 0} (f : A → Bool) (l : List A) (i : ℕ) (d : A) → i < length l → f (get_or l i d) ≡ true → any_of f l ≡ true
+pub any_of_at {ℓ} : {A : Type ℓ} (f : A → Bool) (l : List A) (i : ℕ) (d : A) → i < length l → f (get_or l i d) ≡ true → any_of f l ≡ true
 unfolding any_of
-any_of_at f = or_at (any_of f) f refl (λ _ _. refl)
+any_of_at f [] i d k e = absurd (omega arith)
+any_of_at f (a ∷ l) zero d k e = or_left (f a) (any_of f l) e
+any_of_at f (a ∷ l) (suc i) d k e = or_right (f a) (any_of f l) (any_of_at f l i d (omega arith) e)
 
 -- what holds of no entry holds at no index
-pub any_of_none : {A : Type 0} (f : A → Bool) (l : List A) (i : ℕ) (d : A) → any_of f l ≡ false → i < length l → f (get_or l i d) ≡ false
+pub any_of_none {ℓ} : {A : Type ℓ} (f : A → Bool) (l : List A) (i : ℕ) (d : A) → any_of f l ≡ false → i < length l → f (get_or l i d) ≡ false
 any_of_none f l i d h k = false_from_ne_true _ (λ p. cc (h, any_of_at f l i d k p))
 
 -- the test of two lists is their equality

@@ -49,3 +49,14 @@ pub then_then :
 unfolding ◌then◌
 then_then f (done a) g h e = e a
 then_then f (refused k l) g h e = refl
+
+-- a number is a refusal
+pub unless_some : {A : Type 0} (k n : ℕ) (o : Outcome A) → (k ≡ 0 → ⊥) → unless k n o ≡ refused k n
+unfolding unless
+unless_some zero n o h = absurd (h refl)
+unless_some (suc k) n o h = refl
+
+-- a refusal stays one
+pub then_refused : {A B : Type 0} (o : Outcome A) (k l : ℕ) (f : A → Outcome B) → o ≡ refused k l → o then f ≡ refused k l
+unfolding ◌then◌
+then_refused o k l f e = rw e

@@ -7,7 +7,7 @@ use native.Mathlib.Omega.{arith}
 use lib.Dec.{leb}
 use borrow.Author.Tests.{leb-true}
 use Rattle.common.specs.Limits.{max_rows, max_columns, max_nodes, max_outputs}
-use Rattle.common.specs.Outcome.{Outcome, done, refused, ◌then◌, Ground, ◌when◌, lowest, most_number, unless}
+use Rattle.common.specs.Outcome.{Outcome, done, refused, ◌then◌, Ground, ◌when◌, lowest, most_number, unless, number_of}
 use Rattle.common.proofs.Lists.{and_left, and_right}
 
 -- what is done is as P says; a refusal has one of the numbers 1 to 15, and its line is at most b
@@ -18,6 +18,12 @@ pub data EndsWithin {A : Type 0} (P : A → Type 0) (b : ℕ) : Outcome A → Ty
 -- a line above the last one that a job or a listing can have: a listing has no more cell lines than cells
 unfoldable pub most_line : ℕ
 most_line = max_rows * max_columns + max_nodes + max_outputs + 4
+
+-- no refusal has number 0, so an outcome with number 0 is done
+pub zero_done : {A : Type 0} {P : A → Type 0} {b : ℕ} (o : Outcome A) → EndsWithin P b o → number_of o ≡ 0 → (a : A) × (o ≡ done a) × P a
+unfolding number_of
+zero_done (done a) (ends_done p) e = (a, refl, p)
+zero_done (refused k l) (ends_refused low high n) e = absurd (omega arith)
 
 -- steps in turn
 pub then_ends :

@@ -6,7 +6,7 @@ use mathlib.Core.Logic.{inl, inr, ⊎_elim}
 use mathlib.Core.Bool.{Bool, true, false}
 use mathlib.Core.List.{List}
 use native.Mathlib.Omega.{arith}
-use native.Mathlib.Nat.{le_trans, mul-le-mul_right, pos_of_ne-zero}
+use native.Mathlib.Nat.{pos_of_ne-zero}
 use borrow.Rule.Slice.PartMut.{put_mid}
 use lib.Arith.{digits_lt}
 use lib.ListN.{length, get_or}
@@ -155,17 +155,12 @@ module _
   where
     -- the cells where the wires meet are there
     spreadable :
-        ((x : ℕ) → x < length from → x * step ≤ length lamp.cells.now)
-        → ((x y : ℕ) → x < length from → y < length to → x * step + y * step' < length lamp.cells.now)
+        ((x y : ℕ) → x < length from → y < length to → x * step + y * step' < length lamp.cells.now)
         → Spreadable lamp (part from head tail) (part to dark (length to))
-    spreadable begin fit =
+    spreadable fit =
         let fronts = part_long from head tail ready.front.within in
         let rest = rest_long to dark ready.others.within in
         record {
-          begins =
-              λ j p.
-              let a = ready.lit.each (head + j) (omega (arith, p, fronts, ready.front.within)) in
-              rw (part_entry from head tail j no_key (omega (arith, p, fronts)), a.2) (begin a.0 a.1);
           meeting =
               λ j k p q.
               let a = ready.lit.each (head + j) (omega (arith, p, fronts, ready.front.within)) in
@@ -212,9 +207,6 @@ module _
     abbrev across_sides : Sides (length rows) (length columns) (passing lamp (length columns)) lamp 0 (length columns) (length rows) (length rows) 1 (length columns)
     across_sides = rows_columns (length rows) (length columns) lamp
 
-    row_within : (r : ℕ) → r < length rows → r ≤ length rows
-    row_within r h = omega arith
-
     abbrev back_sides : Sides (length rows) (length columns) (passing lamp (length columns)) lamp (length rows) 1 (length columns) 0 (length columns) (length rows)
     back_sides = columns_rows (length rows) (length columns) lamp
 
@@ -222,7 +214,6 @@ module _
     pub asks_across : t % 2 ≡ 0 → Spreadable lamp (part rows head tail) (part columns dark (length columns)) × InPlaces (part columns dark (length columns)) stamps
     asks_across parity = (
       spreadable _ _ _ _ _ _ _ _ _ _ _ _ _ _ _ across_sides (standing.even parity)
-          (λ r p. le_trans (mul-le-mul_right (length columns) (row_within r p)) fits.cells_fit)
           (λ r c p q. omega (arith, digits_lt p q, fits.cells_fit)),
       placed _ _ _ _ _ _ _ _ _ _ _ _ _ _ _ across_sides (standing.even parity) fits.wires_fit,
     )
@@ -231,7 +222,6 @@ module _
     pub asks_back : (t % 2 ≡ 0 → ⊥) → Spreadable lamp (part columns head tail) (part rows dark (length rows)) × InPlaces (part rows dark (length rows)) stamps
     asks_back parity = (
       spreadable _ _ _ _ _ _ _ _ _ _ _ _ _ _ _ back_sides (standing.odd parity)
-          (λ c q. omega (arith, digits_lt fits.row_0 q, fits.cells_fit))
           (λ c r q p. omega (arith, digits_lt p q, fits.cells_fit)),
       placed _ _ _ _ _ _ _ _ _ _ _ _ _ _ _ back_sides (standing.odd parity) (omega (arith, fits.wires_fit)),
     )

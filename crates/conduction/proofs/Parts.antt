@@ -2,23 +2,24 @@
 use Prim.Native.Nat.{ℕ, suc, ◌+◌, ◌-◌, ◌≤◌, ◌<◌}
 use mathlib.Core.Path.{◌≡◌, refl, sym, ap, ◌∙◌}
 use mathlib.Core.Logic.{⊎_elim}
-use mathlib.Core.Bool.{Bool, true, ◌||◌}
+use mathlib.Core.Bool.{Bool, true, ◌||◌, false, ◌&&◌}
 use mathlib.Core.List.{List, [], ◌∷◌}
 use native.Mathlib.Omega.{arith}
 use lib.ListN.{length, get_or, set, take, drop}
 use lib.Seq.{get_or-set_same, get_or-set_other}
-use lib.Dec.{eqb}
-use borrow.Author.Tests.{eq-eqb, ne_eqb}
+use lib.Dec.{eqb, leb}
+use borrow.Author.Tests.{eq-eqb, ne_eqb, leb-true, le-leb}
 use Rattle.std.proofs.lemmas.List.{get_or-drop, take_more}
 use Rattle.std.proofs.lemmas.List.Recursion.{or_push}
 use Rattle.std.proofs.Math.Bool.{or_comm}
-use Rattle.std.proofs.lemmas.Bool.{cases_eq, or_cases}
-use Rattle.common.specs.Lists.{any_of}
-use Rattle.common.proofs.Lists.{any_of_at}
+use Rattle.std.proofs.lemmas.Bool.{cases_eq, or_cases, cases_Bool}
+use Rattle.common.specs.Lists.{any_of, some_below}
+use Rattle.common.proofs.Lists.{any_of_at, some_below_is, and_left}
 use Rattle.conduction.specs.declared.Key.{Key}
 use Rattle.conduction.specs.declared.Lamp.{Lamp}
 use Rattle.conduction.specs.Wires.{no_key, part, passes, joined_to, Sorted, among, NewlyStamped}
 use Rattle.conduction.proofs.Sorting.{sorted_none, sorted_both, sorted_as, part_long, part_entry}
+use native.Mathlib.Numerals.{add-one}
 
 -- whether f holds of one of the first i entries, and of one more
 pub any_more :
@@ -109,3 +110,18 @@ module _ (keys : List Key) (new : ℕ) where
             (get_or-set_other after place v new 0 p ∙ m.stamps v))
             (cases_eq v place));
       }
+
+-- of the numbers from head on, none is below head
+pub none_from : (head : ℕ) (f : ℕ → Bool) → some_below head (λ k. leb head k && f k) ≡ false
+none_from head f =
+    ⊎_elim
+    (λ (h : some_below head (λ k. leb head k && f k) ≡ true).
+    let at = some_below_is head (λ k. leb head k && f k) h in
+    absurd (omega (arith, at.1, leb-true head at.0 (and_left (leb head at.0) (f at.0) at.2))))
+    (λ h. h)
+    (cases_Bool (some_below head (λ k. leb head k && f k)))
+
+-- and one more
+pub some_from : (head i : ℕ) (f : ℕ → Bool) → head ≤ i → some_below (i + 1) (λ k. leb head k && f k) ≡ f i || some_below i (λ k. leb head k && f k)
+unfolding some_below
+some_from head i f h = rw (add-one, le-leb head i h)

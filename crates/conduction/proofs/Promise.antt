@@ -24,7 +24,7 @@ use Rattle.cells.specs.Record.{sound}
 use Rattle.cells.specs.Setting.{is_setting}
 use Rattle.conduction.specs.declared.Lamp.{Lamp}
 use Rattle.conduction.specs.Round.{round_count, at_rest}
-use Rattle.conduction.specs.Stamps.{stamps_after, Settled}
+use Rattle.conduction.specs.Stamps.{stamps_after, Settled, Counted}
 use Rattle.conduction.specs.Light.{joined, lit_by, light}
 use Rattle.conduction.specs.Wires.{passes, passing, on_codes, LampReady}
 use Rattle.conduction.proofs.Rounds.{rests_same}
@@ -60,6 +60,24 @@ table_says lamp cells setting firsts m n l is-cells is-on r c h k =
     let small = leb-true code (1 + 2 * length setting) (rw (get_or-take (m * n) cells i 0 within) at (all_of_at (λ x. leb x (1 + 2 * length setting)) (take (m * n) cells) i l.codes_fit taken)) in
     let entry : get_or (tab 256 f) code false ≡ f code = get_or-tab 256 f code false (omega (arith, l.switches_fit)) in
     rw (is-cells, is-on, entry, lt-ltb code (2 + 2 * length setting) (omega arith))
+
+-- so what is counted of one is counted of the other, and what is counted by the codes is what light counts
+pub counted_as :
+    (m n : ℕ) (j j' : ℕ → ℕ → Bool) (k t : ℕ) (after : List ℕ)
+    → ((r c : ℕ) → r < m → c < n → j r c ≡ j' r c)
+    → Counted m n j k after t
+    → Counted m n j' k after t
+counted_as m n j j' k t after agree counted = settled_as m n j j' k after (Some t) agree counted
+
+pub light_counted :
+    (lamp : Lamp) (cells setting firsts : List ℕ) (m n k t : ℕ) (after : List ℕ)
+    → LampReady cells setting m n firsts
+    → lamp.cells.now ≡ cells
+    → lamp.on.now ≡ on_codes setting
+    → Counted m n (passing lamp n) k after t
+    → Counted m n (joins cells n setting) k after t
+light_counted lamp cells setting firsts m n k t after ready of-cells of-codes =
+    counted_as m n (passing lamp n) (joins cells n setting) k t after (table_says lamp cells setting firsts m n ready of-cells of-codes)
 
 -- off is not one of them
 pub off_dark : (setting : List ℕ) → get_or (on_codes setting) 0 false ≡ false

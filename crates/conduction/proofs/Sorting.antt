@@ -47,7 +47,7 @@ exchanged_then first second l l' l'' later long a b =
     }
 
 -- two entries exchanged
-exchanged_two :
+pub exchanged_two :
     (first : ℕ) (l l' : List Key) (i j : ℕ) → i < length l → j < length l → first ≤ i → first ≤ j → SwappedAt l l' i j → Exchanged first l l'
 exchanged_two first l l' i j in-i in-j p q swapped =
     record {

@@ -55,7 +55,6 @@ pub record Sortable (lamp : Lamp) (keys : List Key) (lit at end : ℕ) : Type 0 
 -- dark wires that can be sorted by what conducting cells join to some wires: what one of these adds, with what a dark one adds, is the
 -- place of a cell
 pub record Spreadable (lamp : Lamp) (front dark : List Key) : Type 0 where
-  pub begins : (j : ℕ) → j < length front → (get_or front j no_key).adds ≤ length lamp.cells.now
   pub meeting :
       (j k : ℕ) → j < length front → k < length dark → (get_or front j no_key).adds + (get_or dark k no_key).adds < length lamp.cells.now
 

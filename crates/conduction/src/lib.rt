@@ -3,8 +3,8 @@
 #![tactic(auto)]
 
 pub mod lighting;
-mod spreading;
-mod stamping;
+pub mod spreading;
+pub mod stamping;
 
 ghost use Rattle.std.specs.Prelude.{◌≡◌, false, get_or};
 

@@ -1,9 +1,10 @@
 // How light spreads from lit wires to dark ones: the parts of a round. The wires of one side, its rows or its columns, are a list of keys in
 // which the lit ones stand before the dark ones, in the order in which they were lit. That each key meets the lamp is a clause of each function and
 // no type of lamp and keys: the keys are exchanged while the lamp is read.
-ghost use Rattle.std.specs.Prelude.{◌+◌, ◌*◌, ◌≡◌, ℕ, ◌≤◌, ◌<◌, true, false, length, get_or, drop};
+ghost use Rattle.std.specs.Prelude.{◌+◌, ◌*◌, ◌≡◌, ◌≤◌, ◌<◌, length, get_or, drop, eqb};
+ghost use Rattle.std.specs.List.{list_all};
 ghost use Rattle.common.specs.Limits.{max_rows, max_columns, max_switches};
-ghost use Rattle.conduction.specs.Wires.{no_key, wire_of, in_order, passes, on_codes, joined_to, Meeting, Sortable, Spreadable, InPlaces, Sorted, NewlyStamped};
+ghost use Rattle.conduction.specs.Wires.{wire_of, in_order, passes, on_codes, joined_to, Meeting, Sortable, Spreadable, InPlaces, Sorted, NewlyStamped};
 
 use crate::{CODES, Key, Lamp};
 use cells::conducts_code;
@@ -34,7 +35,7 @@ impl Lamp<'_> {
     // key, and this one looks at a cell that only these keys have.
     fn all_off(self, keys: &[Key]) -> bool
         requires { Meeting self keys.now }
-        ensures { result ≡ true → (k : ℕ) → k < length keys.now → passes self.entry (get_or keys.now k no_key).adds ≡ false }
+        ensures { result ≡ list_all (λ k. eqb (get_or self.entry.cells.now k.adds 0) 0) keys.now }
     {
         let mut off = true;
         for key in keys {
@@ -78,11 +79,15 @@ impl Lamp<'_> {
         self.sort(keys, lit, 4 * fours..keys.len())
     }
 
-    // Sorts the dark wires of one side by what conducting cells join to wires of the other side. The answer is how many are joined to one.
+    // Sorts the dark wires of one side by what conducting cells join to wires of the other side. The answer is how many are joined to one. Where no
+    // wire is dark there need be no cells for the wires of the front, so that is asked first.
     pub fn spread(self, front: &[Key], dark: &mut [Key]) -> usize
         requires { Spreadable self front.now dark.old }
         ensures { Sorted (joined_to self.entry front.now) 0 dark.old dark.new result (length dark.old) }
     {
+        if dark.is_empty() {
+            return 0;
+        }
         let mut lit = 0;
         for key in front {
             lit += self.of_wire(*key).reach(&mut dark[lit..]);

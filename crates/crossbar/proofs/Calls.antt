@@ -13,14 +13,16 @@ use Rattle.cells.specs.declared.Crossbar.{Crossbar}
 use Rattle.conduction.specs.Light.{Lit, light}
 use Rattle.common.proofs.Within.{EndsWithin}
 use Rattle.conduction.proofs.Light.{light_answers}
-use Rattle.crossbar.specs.Bytes.{record_from, pairs}
+use Rattle.crossbar.specs.Bytes.{record_from, pairs, holds_record}
 use Rattle.crossbar.specs.declared.bytes.Record.{Record}
 use Rattle.crossbar.specs.Records.{RecordIs}
-use Rattle.crossbar.specs.Host.{packed, packed_from, of_record}
+use Rattle.crossbar.specs.Host.{packed, packed_from, of_record, number_unit, host_light, host_print, LightCall, PrintCall}
 use Rattle.crossbar.proofs.Records.{not_held, was_held, none_held, one_held}
 use Rattle.crossbar.proofs.Numbers.{packed_is}
 use Rattle.crossbar.proofs.Lent.{lent_numbers, lent_most, light_lent}
 use Rattle.crossbar.proofs.Pairs.{pairs-padded, no_numbers}
+use mathlib.Core.Bool.{false}
+use Rattle.listings.specs.Listing.{print}
 
 -- a call that reads a record: where the slice holds none, and where it holds one and the call beneath answers
 module _ {A : Type 0} (value : A → ℕ) (bytes : A → List ℕ) (s : List ℕ) (rest : Crossbar → Outcome A) (room : ℕ) where
@@ -42,6 +44,36 @@ module _ {A : Type 0} (value : A → ℕ) (bytes : A → List ℕ) (s : List ℕ
   one_answered x r after h a =
       let found = was_held s x h in
       rw (one_held s (rest (record_from s)) found.0, ← found.1) a
+
+-- a slice that holds no record is refused
+refused_12 :
+    {A : Type 0} (value : A → ℕ) (bytes : A → List ℕ) (s : List ℕ) (rest : Outcome A) (room r : ℕ) (after : List ℕ)
+    → holds_record s ≡ false
+    → r ≡ 12 * number_unit
+    → after ≡ zeros room
+    → Answered (of_record s rest) (packed value) bytes room r after
+unfolding packed buffer_of
+refused_12 value bytes s rest room r after h e f = rw (none_held s rest h) (record { answer = e; buffer = f })
+
+pub light_refused :
+    (s cells setting before after : List ℕ) (r : ℕ)
+    → holds_record s ≡ false
+    → r ≡ 12 * number_unit
+    → after ≡ zeros (length before)
+    → LightCall s cells setting before r after
+unfolding host_light
+light_refused s cells setting before after r =
+    refused_12 (λ a. a.count) (λ a. pairs a.firsts) s (light (record_from s) cells setting (length before / 2)) (length before) r after
+
+pub print_refused :
+    (s cells before after : List ℕ) (r : ℕ)
+    → holds_record s ≡ false
+    → r ≡ 12 * number_unit
+    → after ≡ zeros (length before)
+    → PrintCall s cells before r after
+unfolding host_print
+print_refused s cells before after r =
+    refused_12 length (λ t. t) s (print (record_from s) cells (length before)) (length before) r after
 
 -- its answer as one number
 pub answered :

@@ -14,7 +14,7 @@ use Rattle.std.specs.Simd.{first_chunks}
 use Rattle.std.proofs.lemmas.List.{get_or-take, get_or-drop}
 use Rattle.common.specs.Limits.{max_outputs}
 use Rattle.common.specs.Lists.{zeros, padded, tab, all_of}
-use Rattle.common.proofs.Lists.{all_of_at, length-padded, get_or-padded_any, get_or_before_zeros, padded-set, tab_is}
+use Rattle.common.proofs.Lists.{all_of_at, length-padded, get_or-padded_any, get_or_before_zeros, padded-set, tab_is, length-tab}
 use Rattle.cells.specs.declared.Crossbar.{Crossbar}
 use Rattle.crossbar.specs.Bytes.{record_length, numbers_of, pairs, record_bytes, number_at, record_from}
 
@@ -146,3 +146,8 @@ pairs-padded n k ns h l =
 pub numbers_back : (n : ℕ) (ns : List ℕ) (i : ℕ) → number_at (padded n (pairs ns)) i ≡ get_or ns i 0
 unfolding number_at
 numbers_back n ns i = rw (get_or-padded_any n (pairs ns) (2 * i), get_or-padded_any n (pairs ns) (2 * i + 1)) (number_in ns i)
+
+-- a table with one entry more
+pub tab_more : (f : ℕ → ℕ) (n j : ℕ) → j < n → set (padded n (tab j f)) j (f j) ≡ padded n (tab (j + 1) f)
+unfolding tab
+tab_more f n j h = rw add-one (padded-set n (tab j f) j (f j) (length-tab j f) h)

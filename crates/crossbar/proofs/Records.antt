@@ -40,11 +40,15 @@ module _ (s : List ℕ) where
   unfolding handed fault_of faults
   none_is h = rw (none_held s (done (record_from s)) h)
 
+  pub holds_short : length s < record_length → holds_record s ≡ false
+  unfolding holds_record
+  holds_short h = rw (lt-leb record_length (length s) h)
+
   pub none_short : length s < record_length → RecordIs s (Err (record { fault = fault.Misplaced; line = 0 }))
   unfolding holds_record
   none_short h = none_is (rw (lt-leb record_length (length s) h))
 
-  holds_long : (past : List ℕ) → record_length ≤ length s → past ≡ drop record_length s → holds_record s ≡ all_of (λ b. eqb b 0) past
+  pub holds_long : (past : List ℕ) → record_length ≤ length s → past ≡ drop record_length s → holds_record s ≡ all_of (λ b. eqb b 0) past
   unfolding holds_record
   holds_long past h d = rw (le-leb record_length (length s) h, d)
 

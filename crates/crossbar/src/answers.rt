@@ -2,8 +2,9 @@
 ghost use Rattle.std.specs.Prelude.{◌≡◌, ◌≤◌, ◌<◌, ◌*◌, length, Err, IfOk, IfErr, MatchResult};
 ghost use Rattle.common.specs.declared.Fault.TheVariants as fault;
 ghost use Rattle.common.specs.Lists.{zeros, padded};
+ghost use Rattle.common.specs.Outcome.{most_number};
 ghost use Rattle.crossbar.specs.Bytes.{record_length, record_bytes};
-ghost use Rattle.crossbar.specs.Host.{packed_from};
+ghost use Rattle.crossbar.specs.Host.{number_unit, packed_from};
 
 use crate::bytes::{RECORD_BYTES, write_record};
 use cells::Crossbar;
@@ -23,18 +24,19 @@ pub fn pack(answer: Result<u64, Refusal>) -> u64
     }
 }
 
-// A refusal: its answer, and zeros in the whole buffer, by a `fill` of its own (conduction/src/lighting.rt says why).
-pub fn refuse(out: &mut [u8], refusal: Refusal) -> u64
-    ensures answer { result ≡ packed_from (Err refusal) }
-    ensures buffer { out.new ≡ zeros (length out.old) }
+// A refusal by a number, line 0: its answer, and zeros in the whole buffer, by a `fill` of its own (conduction/src/lighting.rt says why).
+#[tactic(auto, unfolding(common::specs::Outcome::most_number))]
+pub fn refuse(out: &mut [u8], number: u32) -> u64
+    requires { number ≤ most_number }
+    ensures { (result ≡ number * number_unit) × (out.new ≡ zeros (length out.old)) }
 {
     out.fill(0);
-    pack(Err(refusal))
+    u64::from(number) * NUMBER_UNIT
 }
 
 // A crossbar for two buffers, of which the cells' buffer holds the cells: ground 14 also where the record's buffer is shorter than a
 // record.
-#[tactic(auto, unfolding(crate::specs::Bytes::record_length, common::specs::Limits::max_outputs))]
+#[tactic(auto, using(crate::proofs::Numbers::number_most), unfolding(crate::specs::Bytes::record_length, crate::specs::Host::packed_from, common::specs::Limits::max_outputs, common::specs::Outcome::most_number))]
 pub fn deliver(made: Result<Crossbar, Refusal>, head: &mut [u8], cells: &mut [u8]) -> u64
     ensures refused { IfErr made (λ e. (result ≡ packed_from (Err e)) × (head.new ≡ zeros (length head.old)) × (cells.new ≡ cells.old)) }
     ensures short { length head.old < record_length → IfOk made (λ x.
@@ -50,8 +52,11 @@ pub fn deliver(made: Result<Crossbar, Refusal>, head: &mut [u8], cells: &mut [u8
         }
         Ok(_) => {
             cells.fill(0);
-            refuse(head, Fault::NoRoom.at(0))
+            refuse(head, Fault::NoRoom.number())
         }
-        Err(refusal) => refuse(head, refusal),
+        Err(refusal) => {
+            head.fill(0);
+            pack(Err(refusal))
+        }
     }
 }

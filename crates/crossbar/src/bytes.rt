@@ -3,7 +3,7 @@
 ghost use Rattle.std.specs.Prelude.{◌≡◌, ◌*◌, ◌≤◌, length};
 ghost use Rattle.common.specs.Lists.{padded};
 ghost use Rattle.crossbar.specs.Records.{RecordIs};
-ghost use Rattle.crossbar.specs.Bytes.{record_length, numbers_of, pairs, record_bytes};
+ghost use Rattle.crossbar.specs.Bytes.{record_length, numbers_of, pairs, record_bytes, record_from};
 
 use cells::Crossbar;
 use cells::checks::is_zero;
@@ -28,16 +28,7 @@ impl TryFrom<&[u8]> for Record {
     #[tactic(auto, using(crate::proofs::Records::none), unfolding(crate::specs::Bytes::record_length, common::specs::Limits::max_outputs))]
     fn try_from(s: &[u8]) -> Result<Record, Refusal> {
         match s.split_at_checked(RECORD_BYTES) {
-            Some((record, past)) if is_zero(past) => {
-                let (numbers, _) = record.as_chunks::<2>();
-                Ok(Record(Crossbar {
-                    rows: u16::from_le_bytes(numbers[0]),
-                    columns: u16::from_le_bytes(numbers[1]),
-                    switches: u16::from_le_bytes(numbers[2]),
-                    outputs: u16::from_le_bytes(numbers[3]),
-                    outs: array::from_fn(|j| u16::from_le_bytes(numbers[4 + j])),
-                }))
-            }
+            Some((_, past)) if is_zero(past) => Ok(Record(read_record(s))),
             _ => Err(Fault::Misplaced.at(0)),
         }
     }
@@ -53,6 +44,22 @@ impl From<Record> for [u16; RECORD_NUMBERS] {
         numbers[..4].copy_from_slice(&[x.rows, x.columns, x.switches, x.outputs]);
         numbers[4..].copy_from_slice(&x.outs);
         numbers
+    }
+}
+
+// The record that bytes begin with, whatever stands past it.
+#[tactic(auto, unfolding(crate::specs::Bytes::record_length, common::specs::Limits::max_outputs))]
+pub fn read_record(s: &[u8]) -> Crossbar
+    requires { record_length ≤ length s.now }
+    ensures { result ≡ record_from s.now }
+{
+    let (numbers, _) = s.as_chunks::<2>();
+    Crossbar {
+        rows: u16::from_le_bytes(numbers[0]),
+        columns: u16::from_le_bytes(numbers[1]),
+        switches: u16::from_le_bytes(numbers[2]),
+        outputs: u16::from_le_bytes(numbers[3]),
+        outs: array::from_fn(|j| u16::from_le_bytes(numbers[4 + j])),
     }
 }
 

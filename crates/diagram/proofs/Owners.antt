@@ -31,6 +31,10 @@ unfolding bit
 byte_bit true = refl
 byte_bit false = refl
 
+pub byte_most : (b : Bool) → bool_byte b ≤ 1
+byte_most true = omega arith
+byte_most false = omega arith
+
 pub owners_more : (has : ℕ → Bool) (i : ℕ) → length (owners has (suc i)) ≡ length (owners has i) + bit (has i)
 unfolding owners bit
 owners_more has i =

@@ -45,6 +45,10 @@ unfolding steps id_count
 past_steps d s zero i past = ne_eqb i 1 (λ e. omega arith)
 past_steps d s (suc n) i past = rw (past_step d s i past, steps_stay d s n 0 (step_zero d s))
 
+pub past_value : (d : Diagram) (s : List ℕ) (i : ℕ) → id_count d ≤ i → 0 ≡ walk_value d s i
+unfolding walk_value walk_end bit
+past_value d s i past = rw (past_steps d s (length d.nodes) i past)
+
 module _ (d : Diagram) (s : List ℕ) (falls : Falls d) where
   walk_ends_at : {i e : ℕ} → i < id_count d → Ends (step d s) i e → e ≡ walk_end d s i
   walk_ends_at below (stays i up) = sym (walk_stops d s falls i below up)

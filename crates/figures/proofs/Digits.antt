@@ -3,12 +3,12 @@ use Prim.Native.Nat.{ℕ, zero, suc, ◌+◌, ◌-◌, ◌*◌, ◌^◌, ◌<◌
 use mathlib.Core.Path.{◌≡◌, refl, sym, ap, ◌∙◌}
 use mathlib.Core.Bool.{true, false}
 use mathlib.Core.Option.{Option, some, none}
-use mathlib.Core.Logic.{inl, inr}
+use mathlib.Core.Logic.{inl, inr, ⊎_elim}
 use mathlib.Core.List.{List, [], ◌∷◌}
 use native.Mathlib.Omega.{arith}
 use native.Mathlib.Nat.{pow-suc, pow-le-pow_right}
 use native.Mathlib.Numerals.{add-one}
-use lib.ListN.{length, drop}
+use lib.ListN.{length, drop, get_or, get_or-eq_default, drop_of_length-le}
 use lib.Dec.{eqb, leb, eqb-suc-zero}
 use borrow.Author.Tests.{eqb-true, eqb-false, eq-eqb, ne_eqb, le-leb, lt-leb, leb-true}
 use Rattle.std.proofs.lemmas.Bool.{cases_Bool, cases_lt, or_right}
@@ -16,11 +16,27 @@ use Rattle.std.proofs.Math.Bool.{and-false}
 use Rattle.common.proofs.Lists.{and_left, and_right}
 use Rattle.figures.specs.Figure.{is_digit, digits_of, is_figure, number_from, Figured, take_figure}
 use Rattle.figures.specs.Reading.{first_digit}
+use lib.Seq.{drop-cons}
 
 -- a digit's byte lies in 48 to 57
 pub digit_range : (b : ℕ) → is_digit b ≡ true → (48 ≤ b) × (b ≤ 57)
 unfolding is_digit
 digit_range b h = (leb-true 48 b (and_left (leb 48 b) (leb b 57) h), leb-true b 57 (and_right (leb 48 b) (leb b 57) h))
+
+pub digit_low : (b : ℕ) → b < 48 → is_digit b ≡ false
+unfolding is_digit
+digit_low b h = rw (lt-leb 48 b h)
+
+pub digit_high : (b : ℕ) → 48 ≤ b → is_digit b ≡ leb b 57
+unfolding is_digit
+digit_high b h = rw (le-leb 48 b h)
+
+-- a digit stands within the text
+pub digit_inside : (s : List ℕ) (i : ℕ) → is_digit (get_or s i 0) ≡ true → i < length s
+digit_inside s i h =
+    ⊎_elim (λ (k : i < length s). k)
+    (λ (k : length s ≤ i). let e : get_or s i 0 ≡ 0 = get_or-eq_default s 0 k in absurd (omega (arith, digit_range (get_or s i 0) h)))
+    (cases_lt i (length s))
 
 -- the digits that a text begins with: one more digit, or none
 pub digits_of_digit : (b : ℕ) (s : List ℕ) → is_digit b ≡ true → digits_of (b ∷ s) ≡ b ∷ digits_of s
@@ -30,6 +46,19 @@ digits_of_digit b s h = rw (h, digits_of)
 pub digits_of_other : (b : ℕ) (s : List ℕ) → is_digit b ≡ false → digits_of (b ∷ s) ≡ []
 unfolding digits_of
 digits_of_other b s h = rw (h, digits_of)
+
+-- and from a position on
+pub digits-next : (s : List ℕ) (i : ℕ) → is_digit (get_or s i 0) ≡ true → digits_of (drop i s) ≡ get_or s i 0 ∷ digits_of (drop (i + 1) s)
+digits-next s i h =
+    let k : i < length s = digit_inside s i h in
+    rw (add-one i, drop-cons s i 0) (digits_of_digit (get_or s i 0) (drop (suc i) s) h)
+
+pub digits_end : (s : List ℕ) (i : ℕ) → is_digit (get_or s i 0) ≡ false → digits_of (drop i s) ≡ []
+unfolding digits_of
+digits_end s i h =
+    ⊎_elim (λ (k : i < length s). rw (drop-cons s i 0) (digits_of_other (get_or s i 0) (drop (suc i) s) h))
+    (λ (k : length s ≤ i). ap digits_of (drop_of_length-le s k))
+    (cases_lt i (length s))
 
 -- the two cases of the digits that a text begins with: a figure, or not
 pub take_is : (s : List ℕ) → is_figure (digits_of s) ≡ true → take_figure s ≡ some (record { figure = number_from 0 (digits_of s); rest = drop (length (digits_of s)) s })

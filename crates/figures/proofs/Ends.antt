@@ -1,14 +1,16 @@
 -- Whether bytes are left of a text.
-use Prim.Native.Nat.{ℕ}
-use mathlib.Core.Path.{◌≡◌, refl}
-use mathlib.Core.Bool.{true, not}
+use Prim.Native.Nat.{ℕ, ◌<◌, ◌≤◌}
+use mathlib.Core.Path.{◌≡◌, refl, ◌∙◌}
+use mathlib.Core.Bool.{true, not, false}
 use mathlib.Core.Logic.{inl, inr}
 use mathlib.Core.List.{List, [], ◌∷◌}
-use lib.ListN.{length}
+use lib.ListN.{length, drop, length-drop}
 use lib.Dec.{eqb, eqb-suc-zero}
 use Rattle.std.proofs.lemmas.Bool.{cases_Bool}
 use Rattle.figures.specs.Line.{Lines, left, ◌⏎◌, onto, lines_of, follows}
 use Rattle.figures.proofs.Line.{lines_feed, lines_byte}
+use borrow.Author.Tests.{eq-eqb, ne_eqb}
+use native.Mathlib.Omega.{arith}
 
 follows-onto : (b : ℕ) (ls : Lines) → follows (onto b ls) ≡ true
 unfolding onto follows
@@ -25,3 +27,10 @@ pub follows_is : (s : List ℕ) → follows (lines_of s) ≡ not (eqb (length s)
 unfolding lines_of follows
 follows_is [] = refl
 follows_is (b ∷ s) = rw (eqb-suc-zero (length s)) (follows_byte b s)
+
+-- so bytes are left just where a position lies within the text
+pub follows_yes : (s : List ℕ) (at : ℕ) → at < length s → follows (lines_of (drop at s)) ≡ true
+follows_yes s at h = follows_is (drop at s) ∙ rw (ne_eqb (length (drop at s)) 0 (λ e. omega (arith, length-drop at s)))
+
+pub follows_no : (s : List ℕ) (at : ℕ) → length s ≤ at → follows (lines_of (drop at s)) ≡ false
+follows_no s at h = follows_is (drop at s) ∙ rw (eq-eqb (length (drop at s)) 0 (omega (arith, length-drop at s)))

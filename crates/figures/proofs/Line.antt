@@ -17,6 +17,11 @@ use Rattle.common.specs.Lists.{all_of}
 use Rattle.common.proofs.Lists.{and_left, and_right}
 use Rattle.figures.specs.Line.{Lines, left, ◌⏎◌, onto, lines_of, follows}
 
+-- the lines after the first
+unfoldable pub after_first : Lines → Lines
+after_first (left s) = left s
+after_first (l ⏎ ls) = ls
+
 -- whether no byte is a line feed
 unfoldable pub one_line : List ℕ → Bool
 one_line l = all_of (λ b. not (eqb b 10)) l

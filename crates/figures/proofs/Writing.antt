@@ -6,8 +6,8 @@ use mathlib.Core.Logic.{inl, inr}
 use mathlib.Core.List.{List, [], ◌∷◌, ◌++◌, append_assoc, append-nil}
 use native.Mathlib.Omega.{arith}
 use native.Mathlib.Numerals.{add-one}
-use lib.ListN.{length, take, drop, set, length-append, length-drop, length-set, take-append-drop, drop_of_length-le}
-use lib.Seq.{drop-drop, take_at, drop-append-add, length-take-le}
+use lib.ListN.{length, take, drop, set, length-append, length-drop, length-set, take-append-drop, drop_of_length-le, get_or}
+use lib.Seq.{drop-drop, take_at, drop-append-add, length-take-le, set_split, take-suc}
 use lib.Dec.{ltb}
 use borrow.Rule.Slice.PartMut.{put_mid}
 use borrow.Author.Tests.{lt-ltb, le-ltb}
@@ -44,6 +44,23 @@ module _ (s : List ℕ) where
   pub splice_nil : (at : ℕ) → splice s at [] ≡ s
   unfolding splice
   splice_nil at = let e : at + 0 ≡ at = omega arith in rw (e, append-nil) (take-append-drop at s)
+
+  -- one byte written
+  pub splice_one : (at b : ℕ) → at < length s → set s at b ≡ splice s at (b ∷ [])
+  unfolding splice
+  splice_one at b h =
+      let e : at + 1 ≡ suc at = add-one at in
+      set_split s at b h ∙ rw e (sym (append_assoc (take at s) (b ∷ []) (drop (suc at) s)))
+
+-- the first j bytes of a word are written: one more
+pub splice_more : (s w : List ℕ) (at j : ℕ) → at + length w ≤ length s → j < length w → set (splice s at (take j w)) (at + j) (get_or w j 0) ≡ splice s at (take (j + 1) w)
+splice_more s w at j h k =
+    let l : length (take j w) ≡ j = length-take-le j w (omega arith) in
+    let n : length (splice s at (take j w)) ≡ length s = length-splice s at (take j w) (omega arith) in
+    splice_one (splice s at (take j w)) (at + j) (get_or w j 0) (omega arith)
+    ∙ ap (λ (m : ℕ). splice (splice s at (take j w)) (at + m) (get_or w j 0 ∷ [])) (sym l)
+    ∙ splice-splice s at (take j w) (get_or w j 0 ∷ []) (omega arith)
+    ∙ ap (splice s at) (sym (take-suc w j 0 k) ∙ ap (λ (m : ℕ). take m w) (sym (add-one j)))
 
 -- a text written at the start of zeros
 pub splice-zeros : (room : ℕ) (w : List ℕ) → splice (zeros room) 0 w ≡ padded room w
@@ -177,6 +194,26 @@ pub fill_decimal :
 fill_decimal k n s e h =
     let d : fill (length (decimal n)) n s ≡ last (length (decimal n)) n [] ++ drop (length (decimal n)) s = fill_last (length (decimal n)) n s h in
     ap (λ k. fill k n s) e ∙ d ∙ ap (λ (l : List ℕ). l ++ drop (length (decimal n)) s) (sym (decimal_last n))
+
+-- the figures of one digit and of two
+pub one_digit : (n : ℕ) (s : List ℕ) → n < 10 → length (decimal n) ≤ length s → set s 0 (48 + n) ≡ decimal n ++ drop (length (decimal n)) s
+unfolding fill
+one_digit n s h k =
+    let d : set s 0 (48 + n % 10) ≡ decimal n ++ drop (length (decimal n)) s = fill_decimal 1 n s (sym (length_one n h)) k in
+    let e : 48 + n ≡ 48 + n % 10 = omega arith in
+    ap (set s 0) e ∙ d
+
+pub two_digits :
+    (n : ℕ) (s : List ℕ)
+    → 10 ≤ n
+    → n < 100
+    → length (decimal n) ≤ length s
+    → set (set s 1 (48 + n % 10)) 0 (48 + n / 10) ≡ decimal n ++ drop (length (decimal n)) s
+unfolding fill
+two_digits n s g h k =
+    let d : set (set s 1 (48 + n % 10)) 0 (48 + n / 10 % 10) ≡ decimal n ++ drop (length (decimal n)) s = fill_decimal 2 n s (sym (length_two n g h)) k in
+    let e : 48 + n / 10 ≡ 48 + n / 10 % 10 = omega arith in
+    ap (set (set s 1 (48 + n % 10)) 0) e ∙ d
 
 -- a slice that is just filled by what is written at its front
 pub front_whole : (s w : List ℕ) → length s ≡ length w → w ++ drop (length w) s ≡ w

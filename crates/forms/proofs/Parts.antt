@@ -45,6 +45,11 @@ written_fits {s} {t} {w} {at} {n} f h =
     let q : n ≡ at + length w = a.0 in
     omega (arith, spliced s w at (ap length (sym a.1) ∙ f.kept) h)
 
+pub written_ends : {s t w : List ℕ} {at n : ℕ} {r : Option ℕ} → Written s t at w r → r ≡ Some n → at ≤ length s → n ≤ length t
+written_ends {s} {t} {w} {at} {n} f e h =
+    let g : Written s t at w (Some n) = rw (← e) f in
+    omega (arith, g.kept, written_fits g h)
+
 -- two texts, the second where the first ends, are one text
 pub written_then : {s t u v w : List ℕ} {at n : ℕ} {r : Option ℕ} → at ≤ length s → Written s t at v (Some n) → Written t u n w r → Written s u at (v ++ w) r
 written_then {s} {t} {u} {v} {w} {at} {n} {r} h f g =
@@ -70,11 +75,11 @@ written_stop {s} {t} {v} {at} w f =
 -- a writer that writes a text that fits, and none
 pub wrote_there : {s t : Writer} {w : List ℕ} → t.out.ghost_name ≡ s.out.ghost_name → Written s.out.now t.out.now s.written w (Some t.written) → Wrote s t w (Some tt)
 unfolding past
-wrote_there e h = record { same = e; bytes = h }
+wrote_there e h = record { same = e; bytes = h; full = λ k. absurd cc }
 
 pub wrote_none : (s : Writer) → Wrote s s [] (Some tt)
 unfolding past
-wrote_none s = record { same = refl; bytes = written_none s.out.now s.written }
+wrote_none s = record { same = refl; bytes = written_none s.out.now s.written; full = λ k. absurd cc }
 
 -- the same text, said otherwise
 pub wrote_as : {s t : Writer} {v w : List ℕ} {r : Option Unit} → v ≡ w → Wrote s t w r → Wrote s t v r
@@ -87,16 +92,19 @@ pub ruleset line_rules = (wrote_as, wrote_empty, append_assoc)
 
 pub wrote_then : {s t u : Writer} {v w : List ℕ} {r : Option Unit} → Wrote s t v (Some tt) → Wrote t u w r → Wrote s u (v ++ w) r
 unfolding past
-wrote_then {s = s} f g = record { same = g.same ∙ f.same; bytes = written_then s.fits f.bytes g.bytes }
+wrote_then {s = s} f g = record { same = g.same ∙ f.same; bytes = written_then s.fits f.bytes g.bytes; full = g.full }
 
 -- where a text does not fit, what would follow it does not either
 pub wrote_stop : {s t : Writer} {v : List ℕ} (w : List ℕ) → Wrote s t v None → Wrote s t (v ++ w) None
 unfolding past
-wrote_stop w f = record { same = f.same; bytes = written_stop w f.bytes }
+wrote_stop w f = record { same = f.same; bytes = written_stop w f.bytes; full = f.full }
 
 -- what the buffer of a writer holds once the writer is gone
+pub wrote_at : {s t : Writer} {o u w : List ℕ} {at : ℕ} {r : Option Unit} {q : Option ℕ} → Wrote s t w r → s.written ≡ at → s.out.now ≡ o → u ≡ t.out.now → q ≡ past r t.written → Written o u at w q
+wrote_at {s} {t} {o} {u} {w} {at} {r} {q} h z e f k = rw (← z, ← e, f, k) h.bytes
+
 pub wrote_whole : {s t : Writer} {o u w : List ℕ} {r : Option Unit} {q : Option ℕ} → Wrote s t w r → s.written ≡ 0 → s.out.now ≡ o → u ≡ t.out.now → q ≡ past r t.written → Written o u 0 w q
-wrote_whole {s} {t} {o} {u} {w} {r} {q} h z e f k = rw (← z, ← e, f, k) h.bytes
+wrote_whole = wrote_at
 
 -- a text `whole` is being written by a writer that was s: it is t now, and once it writes `rest`, the whole is written
 pub record Going (s : Writer) (whole : List ℕ) (t : Writer) (rest : List ℕ) : Type 0 where

@@ -432,6 +432,13 @@ entries (word w ∷ t) i vs = entries t i vs
 entries (figure ∷ t) i vs = get_or vs i 0 ∷ entries t (suc i) vs
 entries (label ∷ t) i vs = get_or vs i 0 ∷ entries t (suc i) vs
 
+-- the bounds of these entries
+unfoldable pub ValueWithin : Template → ℕ → List ℕ → Type 0
+ValueWithin [] i vs = Unit
+ValueWithin (word w ∷ t) i vs = ValueWithin t i vs
+ValueWithin (figure ∷ t) i vs = (get_or vs i 0 < 100000) × ValueWithin t (suc i) vs
+ValueWithin (label ∷ t) i vs = (1 ≤ get_or vs i 0) × (get_or vs i 0 ≤ 3) × ValueWithin t (suc i) vs
+
 -- the entry at place i of values that are v and others from there on, and the others
 place_first : (us vs : List ℕ) (i v : ℕ) → drop i us ≡ v ∷ vs → get_or us i 0 ≡ v
 place_first us vs i v e =
@@ -443,42 +450,64 @@ place_more us vs i v e =
     let k : suc i ≡ i + 1 = omega arith in
     ap (λ (j : ℕ). drop j us) k ∙ sym (drop-drop 1 i us) ∙ ap (drop 1) e
 
-entries_from : (t : Template) (us vs : List ℕ) (i : ℕ) → drop i us ≡ vs → FitsTemplate t vs → vs ≡ entries t i us
-unfolding FitsTemplate entries
-entries_from [] us [] i e f = refl
-entries_from [] us (v ∷ vs) i e f = absurd f
-entries_from (word w ∷ t) us vs i e f = entries_from t us vs i e f
-entries_from (figure ∷ t) us [] i e f = absurd f
-entries_from (figure ∷ t) us (v ∷ vs) i e f =
-    rw (place_first us vs i v e) (ap (λ (r : List ℕ). v ∷ r) (entries_from t us vs (suc i) (place_more us vs i v e) f.1))
-entries_from (label ∷ t) us [] i e f = absurd f
-entries_from (label ∷ t) us (v ∷ vs) i e f =
-    rw (place_first us vs i v e) (ap (λ (r : List ℕ). v ∷ r) (entries_from t us vs (suc i) (place_more us vs i v e) f.2))
+fits_from :
+    (t : Template) (us vs : List ℕ) (i : ℕ) → drop i us ≡ vs → FitsTemplate t vs → (vs ≡ entries t i us) × ValueWithin t i us
+unfolding FitsTemplate entries ValueWithin
+fits_from [] us [] i e f = (refl, tt)
+fits_from [] us (v ∷ vs) i e f = absurd f
+fits_from (word w ∷ t) us vs i e f = fits_from t us vs i e f
+fits_from (figure ∷ t) us [] i e f = absurd f
+fits_from (figure ∷ t) us (v ∷ vs) i e f =
+    let p = place_first us vs i v e in
+    let k = fits_from t us vs (suc i) (place_more us vs i v e) f.1 in
+    rw p (ap (λ (r : List ℕ). v ∷ r) k.0, (f.0, k.1))
+fits_from (label ∷ t) us [] i e f = absurd f
+fits_from (label ∷ t) us (v ∷ vs) i e f =
+    let p = place_first us vs i v e in
+    let k = fits_from t us vs (suc i) (place_more us vs i v e) f.2 in
+    rw p (ap (λ (r : List ℕ). v ∷ r) k.0, (f.0, f.1, k.1))
 
 pub fits_entries : (t : Template) (vs : List ℕ) → FitsTemplate t vs → vs ≡ entries t 0 vs
-fits_entries t vs = entries_from t vs vs 0 refl
+fits_entries t vs f = (fits_from t vs vs 0 refl f).0
+
+pub fits_within : (t : Template) (vs : List ℕ) → FitsTemplate t vs → ValueWithin t 0 vs
+fits_within t vs f = (fits_from t vs vs 0 refl f).1
 
 -- The values of the lines that are read by a template: the values of a line that was read, and that values in bounds fit.
 
-pub job_values : (vs : List ℕ) → FitsTemplate job_form vs → vs ≡ get_or vs 0 0 ∷ get_or vs 1 0 ∷ get_or vs 2 0 ∷ []
-unfolding entries job_form
-job_values = fits_entries job_form
+pub job_values :
+    (vs : List ℕ)
+    → FitsTemplate job_form vs
+    → (vs ≡ get_or vs 0 0 ∷ get_or vs 1 0 ∷ get_or vs 2 0 ∷ [])
+    × (get_or vs 0 0 < 100000) × (get_or vs 1 0 < 100000) × (get_or vs 2 0 < 100000)
+unfolding entries ValueWithin job_form
+job_values vs f = let w = fits_within job_form vs f in (fits_entries job_form vs f, w.0, w.1.0, w.1.1.0)
 
 pub job_fits : (a b c : ℕ) → a < 100000 → b < 100000 → c < 100000 → FitsTemplate job_form (a ∷ b ∷ c ∷ [])
 unfolding FitsTemplate job_form
 job_fits a b c pa pb pc = (pa, (pb, (pc, tt)))
 
-pub one_values : (vs : List ℕ) → FitsTemplate one_form vs → vs ≡ get_or vs 0 0 ∷ []
-unfolding entries one_form
-one_values = fits_entries one_form
+pub one_values :
+    (vs : List ℕ)
+    → FitsTemplate one_form vs
+    → (vs ≡ get_or vs 0 0 ∷ []) × (1 ≤ get_or vs 0 0) × (get_or vs 0 0 ≤ 3)
+unfolding entries ValueWithin one_form
+one_values vs f = let w = fits_within one_form vs f in (fits_entries one_form vs f, w.0, w.1)
 
 pub one_fits : (a : ℕ) → 1 ≤ a → a ≤ 3 → FitsTemplate one_form (a ∷ [])
 unfolding FitsTemplate one_form
 one_fits a low high = (low, high, tt)
 
-pub node_values : (vs : List ℕ) → FitsTemplate node_form vs → vs ≡ get_or vs 0 0 ∷ get_or vs 1 0 ∷ get_or vs 2 0 ∷ get_or vs 3 0 ∷ get_or vs 4 0 ∷ []
-unfolding entries node_form
-node_values = fits_entries node_form
+pub node_values :
+    (vs : List ℕ)
+    → FitsTemplate node_form vs
+    → (vs ≡ get_or vs 0 0 ∷ get_or vs 1 0 ∷ get_or vs 2 0 ∷ get_or vs 3 0 ∷ get_or vs 4 0 ∷ [])
+    × (get_or vs 0 0 < 100000) × (get_or vs 1 0 < 100000) × (get_or vs 2 0 < 100000) × (get_or vs 3 0 < 100000)
+    × (1 ≤ get_or vs 4 0) × (get_or vs 4 0 ≤ 3)
+unfolding entries ValueWithin node_form
+node_values vs f =
+    let w = fits_within node_form vs f in
+    (fits_entries node_form vs f, w.0, w.1.0, w.1.1.0, w.1.1.1.0, w.1.1.1.1.0, w.1.1.1.1.1)
 
 pub node_fits :
     (a b c d e : ℕ)
@@ -492,9 +521,12 @@ pub node_fits :
 unfolding FitsTemplate node_form
 node_fits a b c d e pa pb pc pd low high = (pa, (pb, (pc, (pd, (low, high, tt)))))
 
-pub out_values : (vs : List ℕ) → FitsTemplate out_form vs → vs ≡ get_or vs 0 0 ∷ get_or vs 1 0 ∷ []
-unfolding entries out_form
-out_values = fits_entries out_form
+pub out_values :
+    (vs : List ℕ)
+    → FitsTemplate out_form vs
+    → (vs ≡ get_or vs 0 0 ∷ get_or vs 1 0 ∷ []) × (get_or vs 0 0 < 100000) × (get_or vs 1 0 < 100000)
+unfolding entries ValueWithin out_form
+out_values vs f = let w = fits_within out_form vs f in (fits_entries out_form vs f, w.0, w.1.0)
 
 pub out_fits : (a b : ℕ) → a < 100000 → b < 100000 → FitsTemplate out_form (a ∷ b ∷ [])
 unfolding FitsTemplate out_form
@@ -508,9 +540,15 @@ pub end_fits : FitsTemplate end_form []
 unfolding FitsTemplate end_form
 end_fits = tt
 
-pub crossbar-values : (vs : List ℕ) → FitsTemplate crossbar_form vs → vs ≡ get_or vs 0 0 ∷ get_or vs 1 0 ∷ get_or vs 2 0 ∷ get_or vs 3 0 ∷ []
-unfolding entries crossbar_form
-crossbar-values = fits_entries crossbar_form
+pub crossbar-values :
+    (vs : List ℕ)
+    → FitsTemplate crossbar_form vs
+    → (vs ≡ get_or vs 0 0 ∷ get_or vs 1 0 ∷ get_or vs 2 0 ∷ get_or vs 3 0 ∷ [])
+    × (get_or vs 0 0 < 100000) × (get_or vs 1 0 < 100000) × (get_or vs 2 0 < 100000) × (get_or vs 3 0 < 100000)
+unfolding entries ValueWithin crossbar_form
+crossbar-values vs f =
+    let w = fits_within crossbar_form vs f in
+    (fits_entries crossbar_form vs f, w.0, w.1.0, w.1.1.0, w.1.1.1.0)
 
 pub crossbar_fits :
     (a b c d : ℕ)
@@ -522,25 +560,36 @@ pub crossbar_fits :
 unfolding FitsTemplate crossbar_form
 crossbar_fits a b c d pa pb pc pd = (pa, (pb, (pc, (pd, tt))))
 
-pub on_values : (vs : List ℕ) → FitsTemplate on_form vs → vs ≡ get_or vs 0 0 ∷ get_or vs 1 0 ∷ []
-unfolding entries on_form
-on_values = fits_entries on_form
+pub on_values :
+    (vs : List ℕ)
+    → FitsTemplate on_form vs
+    → (vs ≡ get_or vs 0 0 ∷ get_or vs 1 0 ∷ []) × (get_or vs 0 0 < 100000) × (get_or vs 1 0 < 100000)
+unfolding entries ValueWithin on_form
+on_values vs f = let w = fits_within on_form vs f in (fits_entries on_form vs f, w.0, w.1.0)
 
 pub on_fits : (a b : ℕ) → a < 100000 → b < 100000 → FitsTemplate on_form (a ∷ b ∷ [])
 unfolding FitsTemplate on_form
 on_fits a b pa pb = (pa, (pb, tt))
 
-pub yes_values : (vs : List ℕ) → FitsTemplate yes_form vs → vs ≡ get_or vs 0 0 ∷ get_or vs 1 0 ∷ get_or vs 2 0 ∷ []
-unfolding entries yes_form
-yes_values = fits_entries yes_form
+pub yes_values :
+    (vs : List ℕ)
+    → FitsTemplate yes_form vs
+    → (vs ≡ get_or vs 0 0 ∷ get_or vs 1 0 ∷ get_or vs 2 0 ∷ [])
+    × (get_or vs 0 0 < 100000) × (get_or vs 1 0 < 100000) × (get_or vs 2 0 < 100000)
+unfolding entries ValueWithin yes_form
+yes_values vs f = let w = fits_within yes_form vs f in (fits_entries yes_form vs f, w.0, w.1.0, w.1.1.0)
 
 pub yes_fits : (a b c : ℕ) → a < 100000 → b < 100000 → c < 100000 → FitsTemplate yes_form (a ∷ b ∷ c ∷ [])
 unfolding FitsTemplate yes_form
 yes_fits a b c pa pb pc = (pa, (pb, (pc, tt)))
 
-pub no_values : (vs : List ℕ) → FitsTemplate no_form vs → vs ≡ get_or vs 0 0 ∷ get_or vs 1 0 ∷ get_or vs 2 0 ∷ []
-unfolding entries no_form
-no_values = fits_entries no_form
+pub no_values :
+    (vs : List ℕ)
+    → FitsTemplate no_form vs
+    → (vs ≡ get_or vs 0 0 ∷ get_or vs 1 0 ∷ get_or vs 2 0 ∷ [])
+    × (get_or vs 0 0 < 100000) × (get_or vs 1 0 < 100000) × (get_or vs 2 0 < 100000)
+unfolding entries ValueWithin no_form
+no_values vs f = let w = fits_within no_form vs f in (fits_entries no_form vs f, w.0, w.1.0, w.1.1.0)
 
 pub no_fits : (a b c : ℕ) → a < 100000 → b < 100000 → c < 100000 → FitsTemplate no_form (a ∷ b ∷ c ∷ [])
 unfolding FitsTemplate no_form

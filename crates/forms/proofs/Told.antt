@@ -76,7 +76,7 @@ module _ {t : Template} {f : List ℕ → Form} {n : ℕ} {s rest : List ℕ} {g
 module _ {n : ℕ} {s rest : List ℕ} {g : Form} where
   pub job_due : {f : JobForm} → LineIs job_form job_from n s g rest → g ≡ form.Job f → IsDue job_form n s (f.switches ∷ f.nodes ∷ f.outputs ∷ []) rest
   unfolding job_from not_due
-  job_due is e = told_due is _ (λ z. absurd cc) (λ us fits y. let k = job_values us fits in let q = sym e ∙ y in cc)
+  job_due is e = told_due is _ (λ z. absurd cc) (λ us fits y. let k = (job_values us fits).0 in let q = sym e ∙ y in cc)
 
   pub job_not : LineIs job_form job_from n s g rest → ((f : JobForm) → g ≡ form.Job f → ⊥) → IsNotDue job_form n s g
   unfolding job_from
@@ -84,7 +84,7 @@ module _ {n : ℕ} {s rest : List ℕ} {g : Form} where
 
   pub one_due : {t : ℕ} → LineIs one_form one_from n s g rest → g ≡ form.One t → IsDue one_form n s (t ∷ []) rest
   unfolding one_from not_due
-  one_due is e = told_due is _ (λ z. absurd cc) (λ us fits y. let k = one_values us fits in let q = sym e ∙ y in cc)
+  one_due is e = told_due is _ (λ z. absurd cc) (λ us fits y. let k = (one_values us fits).0 in let q = sym e ∙ y in cc)
 
   pub one_not : LineIs one_form one_from n s g rest → ((t : ℕ) → g ≡ form.One t → ⊥) → IsNotDue one_form n s g
   unfolding one_from
@@ -92,7 +92,7 @@ module _ {n : ℕ} {s rest : List ℕ} {g : Form} where
 
   pub node_due : {f : NodeForm} → LineIs node_form node_from n s g rest → g ≡ form.Node f → IsDue node_form n s (f.id ∷ f.x ∷ f.l ∷ f.h ∷ f.t ∷ []) rest
   unfolding node_from not_due
-  node_due is e = told_due is _ (λ z. absurd cc) (λ us fits y. let k = node_values us fits in let q = sym e ∙ y in cc)
+  node_due is e = told_due is _ (λ z. absurd cc) (λ us fits y. let k = (node_values us fits).0 in let q = sym e ∙ y in cc)
 
   pub node_not : LineIs node_form node_from n s g rest → ((f : NodeForm) → g ≡ form.Node f → ⊥) → IsNotDue node_form n s g
   unfolding node_from
@@ -100,7 +100,7 @@ module _ {n : ℕ} {s rest : List ℕ} {g : Form} where
 
   pub out_due : {f : OutForm} → LineIs out_form out_from n s g rest → g ≡ form.Out f → IsDue out_form n s (f.number ∷ f.target ∷ []) rest
   unfolding out_from not_due
-  out_due is e = told_due is _ (λ z. absurd cc) (λ us fits y. let k = out_values us fits in let q = sym e ∙ y in cc)
+  out_due is e = told_due is _ (λ z. absurd cc) (λ us fits y. let k = (out_values us fits).0 in let q = sym e ∙ y in cc)
 
   pub out_not : LineIs out_form out_from n s g rest → ((f : OutForm) → g ≡ form.Out f → ⊥) → IsNotDue out_form n s g
   unfolding out_from
@@ -116,7 +116,7 @@ module _ {n : ℕ} {s rest : List ℕ} {g : Form} where
 
   pub size_due : {f : SizeForm} → LineIs crossbar_form size_from n s g rest → g ≡ form.Size f → IsDue crossbar_form n s (f.rows ∷ f.columns ∷ f.switches ∷ f.outputs ∷ []) rest
   unfolding size_from not_due
-  size_due is e = told_due is _ (λ z. absurd cc) (λ us fits y. let k = crossbar-values us fits in let q = sym e ∙ y in cc)
+  size_due is e = told_due is _ (λ z. absurd cc) (λ us fits y. let k = (crossbar-values us fits).0 in let q = sym e ∙ y in cc)
 
   pub size_not : LineIs crossbar_form size_from n s g rest → ((f : SizeForm) → g ≡ form.Size f → ⊥) → IsNotDue crossbar_form n s g
   unfolding size_from

@@ -5,23 +5,37 @@
 // 870 microseconds that way, 285 by `write!` and 135 here.
 #![tactic(auto, using(crate::proofs::Parts::line_rules), unfolding(crate::specs::Forms::out_form, crate::specs::Forms::end_form, crate::specs::Forms::crossbar_form, crate::specs::Forms::on_form, crate::specs::Forms::yes_form, crate::specs::Forms::no_form, crate::specs::Forms::refused_form, crate::specs::Forms::rounds_form, crate::specs::Forms::reads_form, crate::specs::Template::line, crate::specs::Template::written, crate::specs::Written::parts_text, crate::specs::Written::switch_text, crate::specs::Wrote::past, figures::specs::Bytes::bytes,))]
 
-ghost use Rattle.std.specs.Prelude.{◌≡◌, ◌++◌, ◌∷◌, [], ◌≤◌, length};
+ghost use Rattle.std.specs.Prelude.{◌≡◌, ◌++◌, ◌∷◌, [], ◌≤◌, length, None};
 ghost use Rattle.figures.specs.Figure.{decimal};
 ghost use Rattle.forms.specs.Template.{line};
 ghost use Rattle.forms.specs.Forms.{out_form, end_form, crossbar_form, on_form, yes_form, no_form, refused_form, rounds_form, reads_form};
-ghost use Rattle.forms.specs.Written.{parts_text, switch_text};
+ghost use Rattle.forms.specs.Written.{Written, parts_text, switch_text};
 
 use crate::SizeForm;
 use figures::{figure_length, write_figure};
 
 // A text that is written into a buffer from its start on: the buffer, and how many bytes are written. What is to be written next and does
-// not fit is refused by None. It is no slice of what is left: the count is what a call answers. A cell's row and column are two parameters: the three
-// lines of a cell promise a form each, and a `CellForm` may hold an off cell, which has no line.
+// not fit is refused by None, and the writer is full from then on: nothing shorter is written after what is lacking. It is no slice of what is left: the
+// count is what a call answers. A cell's row and column are two parameters: the three lines of a cell promise a form each, and a `CellForm` may hold an
+// off cell, which has no line.
 #[derive(Drop)]
 pub struct Writer<'a> {
     out: &'a mut [u8],
     pub written: usize,
     ghost fits: { written ≤ length out.now },
+}
+
+// A line at a position of a buffer, by a writer of its own: where it ends. The compiler keeps that writer out of memory; behind a reference its count
+// would be stored and read again at each part, and a line would take up to a twentieth longer (measured).
+#[inline(always)]
+#[tactic(auto, using(crate::proofs::Parts::wrote_at), unfolding(crate::specs::Wrote::past))]
+fn line_at(out: &mut [u8], at: usize, parts: &[(&[u8], u32)], last: &[u8]) -> Option<usize>
+    requires { at ≤ length out.old }
+    ensures { Written out.old out.new at (parts_text parts.now last.now) result }
+{
+    let mut writer = Writer { out, written: at };
+    writer.parts(parts, last)?;
+    Some(writer.written)
 }
 
 impl<'a> Writer<'a> {
@@ -36,12 +50,24 @@ impl<'a> Writer<'a> {
         Writer { out, written: 0 }
     }
 
+    // What does not fit is refused, and the writer is full from then on.
+    fn full(&mut self) -> Option<()>
+        ensures none { result ≡ None }
+        ensures same { self.new.out.ghost_name ≡ self.old.out.ghost_name }
+        ensures kept { self.new.out.now ≡ self.old.out.now }
+        ensures full { self.new.written ≡ length self.new.out.now }
+    {
+        self.written = self.out.len();
+        None
+    }
+
     // A word.
+    #[inline(always)]
     fn word(&mut self, word: &[u8]) -> Option<()>
         ensures { Wrote self.old self.new word.now result }
     {
         if self.out.len() - self.written < word.len() {
-            return None;
+            return self.full();
         }
         let end = self.written + word.len();
         self.out[self.written..end].copy_from_slice(word);
@@ -50,11 +76,12 @@ impl<'a> Writer<'a> {
     }
 
     // A word and the figure of a number after it.
+    #[inline(always)]
     fn figure(&mut self, word: &[u8], n: u32) -> Option<()>
         ensures { Wrote self.old self.new (word.now ++ decimal n) result }
     {
         if self.out.len() - self.written < word.len() + figure_length(n) {
-            return None;
+            return self.full();
         }
         let past = self.written + word.len();
         let end = past + figure_length(n);
@@ -64,17 +91,28 @@ impl<'a> Writer<'a> {
         Some(())
     }
 
-    // A line: words with a figure after each, and the last word. Where it is called the words are known, so it is put in place there, and
-    // each is copied as so many bytes: without the hint one copy of this loop serves all lines, and writing a line takes more than three
-    // times as long.
+    // The parts of a line: words with a figure after each, and the last word.
     #[inline(always)]
-    fn line(&mut self, parts: &[(&[u8], u32)], last: &[u8]) -> Option<()>
+    fn parts(&mut self, parts: &[(&[u8], u32)], last: &[u8]) -> Option<()>
         ensures { Wrote self.old self.new (parts_text parts.now last.now) result }
     {
         for (word, n) in parts {
             self.figure(word, *n)?;
         }
         self.word(last)
+    }
+
+    // A line. Where it is called the words are known, so it is put in place there, and each is copied as so many bytes: without the hint one copy
+    // of this loop serves all lines, and writing a line takes more than three times as long.
+    #[inline(always)]
+    fn line(&mut self, parts: &[(&[u8], u32)], last: &[u8]) -> Option<()>
+        ensures { Wrote self.old self.new (parts_text parts.now last.now) result }
+    {
+        let Some(end) = line_at(self.out, self.written, parts, last) else {
+            return self.full();
+        };
+        self.written = end;
+        Some(())
     }
 
     // `(out J I)`, and in a listing `(out J r)`

@@ -1,6 +1,6 @@
 -- What the reader accepts: a diagram that is valid line by line, so the facts of its nodes and outputs, and its sizes.
 use Prim.Native.Nat.{ℕ, zero, suc, ◌+◌, ◌≤◌}
-use mathlib.Core.Path.{◌≡◌, refl, sym, ap, subst, ◌∙◌}
+use mathlib.Core.Path.{◌≡◌, refl, sym, ap, ◌∙◌}
 use mathlib.Core.Bool.{not, ◌&&◌}
 use mathlib.Core.List.{List, []}
 use native.Mathlib.Omega.{arith}
@@ -15,7 +15,7 @@ use Rattle.common.proofs.Outcome.{then_done, unless_done, not_met}
 use Rattle.figures.specs.Line.{Lines, lines_of}
 use Rattle.forms.specs.Due.{Taken, due}
 use Rattle.forms.specs.Forms.{job_form, one_form, node_form, out_form, end_form}
-use Rattle.forms.proofs.Template.{FitsTemplate, due_fits, node_values, one_values}
+use Rattle.forms.proofs.Template.{due_fits, node_values, one_values}
 use Rattle.diagram.proofs.Valid.{Valid, valid_bare, valid_node, valid_out, valid_facts}
 use Rattle.diagram.specs.Diagram.{Diagram, bare, with_node, with_out}
 use Rattle.diagram.specs.Faults.{head_fault}
@@ -69,18 +69,11 @@ read_outs_lem (suc k) d n ls t v h =
 
 -- a label of a line is 1, 2 or 3
 pub node_label : (n : ℕ) (ls : Lines) (o : Taken) → due node_form n ls ≡ done o → (1 ≤ (node_of o.vals).t) × ((node_of o.vals).t ≤ 3)
-unfolding node_of FitsTemplate node_form
-node_label n ls o h =
-    let f = due_fits node_form n ls o h in
-    let bounds = subst (FitsTemplate node_form) (node_values o.vals f) f in
-    let label = bounds.1.1.1.1 in (label.0, label.1)
+unfolding node_of
+node_label n ls o h = let v = node_values o.vals (due_fits node_form n ls o h) in (v.5, v.6)
 
 pub one_label : (n : ℕ) (ls : Lines) (o : Taken) → due one_form n ls ≡ done o → (1 ≤ get_or o.vals 0 0) × (get_or o.vals 0 0 ≤ 3)
-unfolding FitsTemplate one_form
-one_label n ls o h =
-    let f = due_fits one_form n ls o h in
-    let bounds = subst (FitsTemplate one_form) (one_values o.vals f) f in
-    (bounds.0, bounds.1)
+one_label n ls o h = let v = one_values o.vals (due_fits one_form n ls o h) in (v.1, v.2)
 
 read_nodes_lem :
     (m k : ℕ) (d : Diagram) (n : ℕ) (ls : Lines) (t : ReadText)

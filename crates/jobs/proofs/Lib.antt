@@ -1,4 +1,5 @@
 pub mod Accepted
+pub mod Entries
 pub mod Refusals
 pub mod Steps
 pub mod Read

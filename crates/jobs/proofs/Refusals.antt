@@ -1,6 +1,6 @@
 -- How the reading of a job ends, and walk: with a number of 1 to 15 and a line below a bound, or an accepted job.
 use Prim.Native.Nat.{ℕ, zero, suc, ◌+◌, ◌*◌, ◌≤◌}
-use mathlib.Core.Path.{refl}
+use mathlib.Core.Path.{refl, ◌≡◌}
 use mathlib.Core.List.{List, []}
 use native.Mathlib.Omega.{arith}
 use native.Mathlib.Nat.{mul-le-mul}
@@ -9,10 +9,10 @@ use lib.Dec.{ltb}
 use borrow.Author.Tests.{ltb-false}
 use Rattle.std.proofs.lemmas.Bool.{or_parts}
 use Rattle.common.specs.Limits.{max_rows, max_columns}
-use Rattle.common.specs.Outcome.{Outcome, most_number}
+use Rattle.common.specs.Outcome.{Outcome, most_number, number_of, done}
 use Rattle.common.proofs.Lists.{bit_most}
 use Rattle.common.proofs.Outcome.{not_met}
-use Rattle.common.proofs.Within.{EndsWithin, ends_done, then_ends, unless_ends, within, most_line}
+use Rattle.common.proofs.Within.{EndsWithin, ends_done, then_ends, unless_ends, within, most_line, zero_done}
 use Rattle.figures.specs.Line.{Lines, lines_of}
 use Rattle.forms.specs.Due.{due}
 use Rattle.forms.specs.Forms.{job_form, one_form, node_form, out_form, end_form}
@@ -84,6 +84,10 @@ accepted_ends s =
     let c = column_count t.diagram in
     let small = or_parts (ltb max_rows r) (ltb max_columns c) (not_met 10 (too_large t.diagram) [] z) in
     ends_done (mul-le-mul (ltb-false max_rows r small.0) (ltb-false max_columns c small.1))))
+
+-- number 0: the job is accepted
+pub accepted_done : (s : List ℕ) → number_of (accepted s) ≡ 0 → (d : Diagram) × (accepted s ≡ done d)
+accepted_done s e = let found = zero_done (accepted s) (accepted_ends s) e in (found.0, found.1)
 
 -- walk's value
 pub walk_ends : (s setting : List ℕ) (j : ℕ) → EndsWithin (λ v. v ≤ 1) most_line (walk s setting j)

@@ -27,13 +27,14 @@ use Rattle.diagram.specs.declared.seen.Seen.{Seen}
 use Rattle.diagram.specs.Held.{held}
 use Rattle.diagram.specs.Seen.{Marked, max_seen, no_marks, with_mark}
 use Rattle.diagram.proofs.SeenLaws.{marked_more}
-use Rattle.jobs.specs.Steps.{given}
+use Rattle.jobs.specs.Steps.{given, HeadRanges}
 use Rattle.jobs.specs.Reading.{ReadText, read_nodes, read_outs, read_end}
 use Rattle.forms.specs.Template.{Template}
 use Rattle.forms.specs.Due.{Taken, due}
 use Rattle.forms.specs.declared.Form.{Form}
 use Rattle.forms.specs.Read.{refusal_in}
 use Rattle.forms.proofs.Told.{IsDue, IsNotDue}
+use Rattle.common.specs.Limits.{max_switches, max_nodes, max_outputs}
 
 -- the line due, number n, then a test of it, then what follows
 module _ {A : Type 0} (t : Template) (n : ℕ) (s : List ℕ) (ground : Taken → ℕ) (go : Taken → Outcome A) where
@@ -219,3 +220,8 @@ pub goes_err :
     → handed (λ a. a) whole ≡ Err e
     → Goes whole r rest
 goes_err whole r e rest h q = rw (passed_on r e h) q
+
+-- sizes of 0 are at most the limits
+pub no_sizes : HeadRanges 0 0 0
+unfolding max_switches max_nodes max_outputs
+no_sizes = record { switches_most = omega arith; nodes_most = omega arith; outputs_most = omega arith }

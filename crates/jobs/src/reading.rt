@@ -17,14 +17,14 @@ ghost use Rattle.jobs.specs.Reading.{read_end, read_outs, read_nodes, read_text}
 ghost use Rattle.jobs.specs.Steps.{HeadRanges, given};
 
 use crate::Job;
-use common::{Fault, MAX_OUTPUTS, Refusal};
+use common::{Fault, MAX_NODES, MAX_OUTPUTS, Refusal};
 use diagram::faults::Earlier;
 use diagram::seen::Seen;
 use diagram::{Diagram, Node, faults, wires};
 use forms::last::last_line;
 use forms::{Form, JobForm};
 
-// Writes one entry of a lent table; nothing else puts a node there.
+// Writes one entry of a lent table; nothing else writes to it.
 fn put(nodes: &mut [Node], k: usize, node: Node)
     requires { k < length nodes.old }
     ensures { nodes.new ≡ set nodes.old k node }
@@ -32,13 +32,14 @@ fn put(nodes: &mut [Node], k: usize, node: Node)
     nodes[k] = node;
 }
 
-// Puts zeros into the entries from `from` on. It stands alone: within the reader the check does not find what the table holds after a write to a
-// part of it.
+// Puts zeros into the entries from `from` on, each through `put`: by `fill` a second function would write to the table.
 fn clear(nodes: &mut [Node], from: usize)
     requires { from ≤ length nodes.old }
     ensures { nodes.new ≡ take from nodes.old ++ replicate (length nodes.old - from) no_node }
 {
-    nodes[from..].fill(Node::default());
+    for k in from..nodes.len() {
+        put(nodes, k, Node::default());
+    }
 }
 
 // The first two lines, `(job V N K)` and `(one T)`: grounds 1, 2 and 9.
@@ -172,4 +173,12 @@ pub fn read_job(text: &[u8], nodes: &mut [Node]) -> Result<Job, Refusal>
     };
     clear(nodes, filled);
     read
+}
+
+// The reader on a table that has its entries by its type, so that it asks nothing of a caller.
+pub fn read_diagram(text: &[u8], nodes: &mut [Node; MAX_NODES]) -> Result<Job, Refusal>
+    ensures job { result ≡ handed job_of (accepted text.now) }
+    ensures table { nodes.new ≡ table (accepted text.now) }
+{
+    read_job(text, nodes)
 }

@@ -5,7 +5,7 @@ ghost use Rattle.common.specs.Fault.{handed};
 ghost use Rattle.jobs.specs.Job.{walk};
 
 use crate::Job;
-use crate::reading::read_job;
+use crate::reading::read_diagram;
 use cells::checks;
 use common::{Fault, MAX_NODES, Refusal};
 use diagram::{Node, walks};
@@ -23,7 +23,7 @@ pub fn walk(text: &[u8], setting: &[u8], output: u32) -> Result<u8, Refusal>
     ensures { result ≡ handed (λ v. v) (walk text.now setting.now output) }
 {
     let mut nodes = [Node::default(); MAX_NODES];
-    let job = read_job(text, &mut nodes)?;
+    let job = read_diagram(text, &mut nodes)?;
     if is_wrong(&job, setting, output) {
         return Err(Fault::WrongSetting.at(0));
     }

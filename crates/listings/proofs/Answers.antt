@@ -9,7 +9,7 @@ use borrow.Author.Tests.{lt-ltb, le-ltb}
 use Rattle.std.specs.Prelude.{Some, None, Ok, Err}
 use Rattle.common.specs.declared.Fault.TheVariants as fault
 use Rattle.common.specs.Lists.{zeros}
-use Rattle.common.specs.Outcome.{done, lowest, unless, buffer_of, Answered}
+use Rattle.common.specs.Outcome.{done, lowest, unless, buffer_of, Answered, refused}
 use Rattle.common.specs.Fault.{fault_of, faults, handed}
 use Rattle.figures.specs.Position.{splice}
 use Rattle.figures.proofs.Writing.{splice-zeros}
@@ -20,6 +20,8 @@ use Rattle.forms.specs.Forms.{crossbar_form, end_form, out_lines}
 use Rattle.forms.specs.Written.{Written}
 use Rattle.forms.proofs.Parts.{written_fits}
 use Rattle.listings.specs.Listing.{cell_lines, listing, print}
+use Rattle.common.specs.Limits.{max_outputs}
+use Rattle.cells.proofs.Sizes.{sound_facts}
 
 module _ (x : Crossbar) (cells : List ℕ) where
   -- the first line, and the lines of the cells, of the outputs and of the end
@@ -30,7 +32,19 @@ module _ (x : Crossbar) (cells : List ℕ) where
   unfolding listing
   listing-parts = simp append_assoc
 
+  pub outputs-in : sound x cells ≡ true → x.outputs ≤ max_outputs
+  outputs-in h = (sound_facts x cells h).sizes.outputs_most
+
   module _ (room : ℕ) where
+    -- grounds 12 and 14
+    pub print-unsound : sound x cells ≡ false → print x cells room ≡ refused 12 0
+    unfolding print lowest unless
+    print-unsound h = rw h
+
+    pub print-long : sound x cells ≡ true → room < length (listing x cells) → print x cells room ≡ refused 14 0
+    unfolding print lowest unless
+    print-long h k = rw (h, lt-ltb room (length (listing x cells)) k)
+
     -- ground 12
     pub answers-unsound :
         sound x cells ≡ false

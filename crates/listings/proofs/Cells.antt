@@ -202,15 +202,15 @@ cell_written_by :
 unfolding placed cell_line
 cell_written_by l p (some vs) b c ea eb ec h =
     same_line (record { row = get_or vs 0 0; column = get_or vs 1 0; cell = On }) p (l ++ (10 ∷ [])) (rw (ea, placed) at h)
-    (line-values on_form l vs _ ea (on_values vs))
+    (line-values on_form l vs _ ea (λ (f : FitsTemplate on_form vs). (on_values vs f).0))
 cell_written_by l p none (some vs) c ea eb ec h =
     same_line (record { row = get_or vs 0 0; column = get_or vs 1 0; cell = Yes (get_or vs 2 0) }) p (l ++ (10 ∷ []))
     (rw (ea, eb, placed) at h)
-    (line-values yes_form l vs _ eb (yes_values vs))
+    (line-values yes_form l vs _ eb (λ (f : FitsTemplate yes_form vs). (yes_values vs f).0))
 cell_written_by l p none none (some vs) ea eb ec h =
     same_line (record { row = get_or vs 0 0; column = get_or vs 1 0; cell = No (get_or vs 2 0) }) p (l ++ (10 ∷ []))
     (rw (ea, eb, ec, placed) at h)
-    (line-values no_form l vs _ ec (no_values vs))
+    (line-values no_form l vs _ ec (λ (f : FitsTemplate no_form vs). (no_values vs f).0))
 cell_written_by l p none none none ea eb ec h =
     let q : none ≡ some p = rw (ea, eb, ec, placed) at h in
     absurd (let z : ◌≡◌ {A = ℕ} 0 1 = cc in omega arith)

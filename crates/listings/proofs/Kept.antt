@@ -5,13 +5,15 @@ use mathlib.Core.Path.{◌≡◌, refl, sym, ap, ◌∙◌}
 use mathlib.Core.Logic.{⊎_elim}
 use mathlib.Core.List.{List, [], ◌∷◌, ◌++◌, append_assoc, append-nil}
 use native.Mathlib.Omega.{arith}
-use lib.ListN.{length, take, set, length-append, length-replicate, replicate-append-replicate}
-use lib.Seq.{length-take-le, take_all, take-append-le, take-set-lt, set_at, set_out, append_snoc}
+use lib.ListN.{length, take, set, length-append, length-replicate, replicate-append-replicate, drop, drop_of_length-le}
+use lib.Seq.{length-take-le, take_all, take-append-le, take-set-lt, set_at, set_out, append_snoc, drop_at, take_at}
 use Rattle.std.proofs.lemmas.Bool.{cases_lt}
 use Rattle.std.proofs.lemmas.List.{take-replicate}
-use Rattle.common.specs.Lists.{zeros, padded}
-use Rattle.common.proofs.Lists.{length-padded}
+use Rattle.common.specs.Lists.{zeros, padded, all_of}
+use Rattle.common.proofs.Lists.{length-padded, all_of_zeros}
 use Rattle.listings.specs.Loader.{kept}
+use lib.Dec.{eqb}
+use mathlib.Core.Bool.{true}
 
 -- the front of a list with zeros after it does not depend on how many there are, if there are enough
 take-front : (n : ℕ) (s : List ℕ) (i j : ℕ) → n ≤ length s + i → n ≤ length s + j → take n (s ++ zeros i) ≡ take n (s ++ zeros j)
@@ -91,3 +93,22 @@ padded_again n s =
 
 pub rows_again : (n : ℕ) (stands : List ℕ) {outs : List ℕ} → padded n stands ≡ outs → padded n outs ≡ padded n stands
 rows_again n stands e = rw (← e) (padded_again n stands)
+
+-- past the cells the buffer holds zeros, and up to there the codes of the cells, where it has room for them
+pub kept_past : (room n : ℕ) (codes : List ℕ) → length codes ≤ n → all_of (λ b. eqb b 0) (drop n (kept room codes)) ≡ true
+unfolding padded all_of
+kept_past room n codes h =
+    ⊎_elim
+    (λ (short : room < n). rw (drop_of_length-le (kept room codes) {i = n} (rw length-kept (omega arith))))
+    (λ (long : n ≤ room).
+    rw (kept-padded room n codes h long, drop_at (padded n codes) (zeros (room - length (padded n codes))) n (length-padded n codes h))
+    (all_of_zeros (λ b. eqb b 0) (room - length (padded n codes)) refl))
+    (cases_lt room n)
+
+pub kept-cells : (room n : ℕ) (codes : List ℕ) → length codes ≤ n → n ≤ room → padded n (take n (kept room codes)) ≡ padded n codes
+unfolding padded
+kept-cells room n codes h long =
+    let full = length-padded n codes h in
+    ap (λ (l : List ℕ). padded n (take n l)) (kept-padded room n codes h long)
+    ∙ ap (padded n) (take_at (padded n codes) (zeros (room - length (padded n codes))) n full)
+    ∙ padded_again n codes

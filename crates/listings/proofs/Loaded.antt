@@ -92,7 +92,7 @@ outs_told (suc k) x n ls y h =
     let d = outs_told k (with_out_row x r) (n + 1) t.0.later y u.1 in
     let g = line_taken out_form n ls t.0 t.1 in
     let longer : length (x.outs ++ (r ∷ [])) ≡ suc (length x.outs) = simp length-append (omega arith) in
-    let shape : t.0.vals ≡ length x.outs ∷ r ∷ [] = out_values t.0.vals g.1 ∙ ap (λ (i : ℕ). i ∷ r ∷ []) f.0 in
+    let shape : t.0.vals ≡ length x.outs ∷ r ∷ [] = (out_values t.0.vals g.1).0 ∙ ap (λ (i : ℕ). i ∷ r ∷ []) f.0 in
     record {
       stands = r ∷ d.stands;
       result = rw (append_assoc x.outs (r ∷ []) d.stands) at d.result;
@@ -390,7 +390,7 @@ first_told s n o y e f h =
     let g = line_taken crossbar_form n (lines_of s) o e in
     told_from s (text_of o.later) r c v k y (not-false (in_range r c v k) (not_met 1 (not (in_range r c v k)) [] f))
     (cells_told o.later (so_far r c v k [] []) (n + 1) y h (omega arith))
-    (ap (λ (vs : List ℕ). line crossbar_form vs ++ text_of o.later) (sym (crossbar-values o.vals g.1))
+    (ap (λ (vs : List ℕ). line crossbar_form vs ++ text_of o.later) (sym (crossbar-values o.vals g.1).0)
     ∙ sym g.0
     ∙ text_lines s)
 

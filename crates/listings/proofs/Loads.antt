@@ -3,13 +3,13 @@ use Prim.Native.Nat.{ℕ, zero, suc, ◌+◌, ◌*◌, ◌≤◌, ◌<◌}
 use mathlib.Core.Path.{◌≡◌, refl, sym, ap, ◌∙◌}
 use mathlib.Core.Bool.{true, false}
 use mathlib.Core.List.{List, [], ◌∷◌, ◌++◌}
-use lib.ListN.{length, get_or}
+use lib.ListN.{length, get_or, take}
 use borrow.Author.Tests.{lt-ltb, le-ltb}
 use Rattle.std.specs.Prelude.{Result, Ok, Err, IfOk, is_err}
 use Rattle.common.specs.declared.Fault.TheVariants as fault
 use Rattle.common.specs.declared.Refusal.{Refusal}
 use Rattle.common.specs.Limits.{max_outputs}
-use Rattle.common.specs.Lists.{zeros}
+use Rattle.common.specs.Lists.{zeros, padded}
 use Rattle.common.specs.Outcome.{Outcome, done, refused, ◌then◌, lowest, unless, buffer_of, Answered}
 use Rattle.common.specs.Fault.{fault_of, faults, handed}
 use Rattle.common.proofs.Faults.{handed_ok, handed_on}
@@ -23,8 +23,10 @@ use Rattle.forms.specs.Due.{due}
 use Rattle.forms.proofs.Told.{IsDue}
 use Rattle.listings.specs.Loading.{Listed, out_row_fault, with_out_row, load_end, load_outs, sized, size_fault, load_cells, load_from, record_of, cells_of, fitted, load_at}
 use Rattle.listings.specs.Loader.{listed, sizes_in, kept}
-use Rattle.listings.proofs.Kept.{rows_again, kept-padded}
+use Rattle.listings.proofs.Kept.{rows_again, kept-padded, kept-cells}
 use Rattle.listings.proofs.Stands.{rows_read}
+use mathlib.Core.Logic.{⊎_elim}
+use Rattle.std.proofs.lemmas.Bool.{cases_lt}
 
 -- the first line
 module _ (text : List ℕ) (n room : ℕ) where
@@ -86,6 +88,25 @@ module _ (s : SizeForm) (codes : List ℕ) (room n : ℕ) (ls : Lines) where
       ap (λ o. o then λ x. fitted room x) (outs_alike s codes [] s.outputs n ls ∙ ap (λ o. o then λ x. done (listed s codes x.outs)) d.1)
       ∙ rw (rows_again max_outputs d.0.outs (sym d.2)) refl
 
+-- the buffer and the array hold what the lines say
+pub fitted-same :
+    (s : SizeForm) (codes stands cells outs : List ℕ) (room : ℕ)
+    → cells ≡ kept room codes
+    → length codes ≤ s.rows * s.columns
+    → padded max_outputs stands ≡ outs
+    → fitted room (listed s codes stands) ≡ fitted room (listed s (take (s.rows * s.columns) cells) outs)
+unfolding record_of cells_of
+fitted-same s codes stands cells outs room e h o =
+    let n = s.rows * s.columns in
+    ⊎_elim
+    (λ (short : room < s.rows * s.columns). fitted_short s codes stands room short ∙ sym (fitted_short s (take n cells) outs room short))
+    (λ (long : s.rows * s.columns ≤ room).
+    fitted_long s codes stands room long
+    ∙ sym
+    (fitted_long s (take n cells) outs room long
+    ∙ rw (rows_again max_outputs stands o, e, kept-cells room (s.rows * s.columns) codes h long)))
+    (cases_lt room (s.rows * s.columns))
+
 -- the record and the cells are handed over
 module _ (s : SizeForm) (codes outs : List ℕ) (room : ℕ) (wide : length outs ≡ max_outputs) (long : s.rows * s.columns ≤ room) where
   record_done : fitted room (listed s codes outs) ≡ done (record { head = record { rows = s.rows; columns = s.columns; switches = s.switches; outputs = s.outputs; outs = outs }; codes = cells_of (listed s codes outs) })
@@ -103,6 +124,15 @@ module _ (s : SizeForm) (codes outs : List ℕ) (room : ℕ) (wide : length outs
       → cells ≡ buffer_of room (λ w. w.codes) (fitted room (listed s codes outs))
   unfolding cells_of buffer_of
   fitted_cells holds short = rw record_done (holds ∙ kept-padded room (s.rows * s.columns) codes short long)
+
+-- what a call promises, of an equal outcome and an equal room
+pub handed_as :
+    {A B : Type 0} {o : Outcome A} {f : Outcome A → B} {bytes : A → List ℕ} {m : ℕ} {r : B} {after : List ℕ} (p : Outcome A) (room : ℕ)
+    → p ≡ o
+    → m ≡ room
+    → Answered o f bytes m r after
+    → Answered p f bytes room r after
+handed_as p room e k h = rw (e, ← k) h
 
 -- what a reader of lines answers, and the buffer: cleared after a refusal, and otherwise as the reader left it
 module _ {B : Type 0} (o : Outcome Whole) (f : Whole → B) (room : ℕ) (r : Result B Refusal) (is : r ≡ handed f o) where

@@ -58,7 +58,7 @@ pub record Right (s : ListingSizes) (count : ℕ) (f : CellForm) : Type 0 where
   pub inside : f.row * s.form.columns + f.column < s.form.rows * s.form.columns
   pub code_small : code_of f.cell < 256
 
-right :
+pub right :
     (s : ListingSizes) (codes : List ℕ) (f : CellForm) → cell_fault (listed s.form codes []) (placed_by f) ≡ 0 → Right s (length codes) f
 unfolding max_switches
 right s codes f h =

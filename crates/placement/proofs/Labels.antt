@@ -75,3 +75,21 @@ pub child_row :
 unfolding has_row has_column
 child_row d facts i k some within some_child child-within e f =
     unlike (id_label d facts i some within) (id_label d facts k some_child child-within) e f
+
+-- so what holds of the three labels holds of each
+pub by_label : (P : ℕ → Type 0) → P 1 → P 2 → P 3 → (t : ℕ) → 1 ≤ t → t ≤ 3 → P t
+by_label P row column both t least most = by (label t least most)
+  where
+    by : {u : ℕ} → Label u → P u
+    by is_h = row
+    by is_v = column
+    by is_b = both
+
+-- each id but terminal 0 has a label, as numbers
+pub labelled : (d : Diagram) → Facts d → (i : ℕ) → 1 ≤ i → i < id_count d → (1 ≤ label_at d i) × (label_at d i ≤ 3)
+labelled d facts i least most = by (id_label d facts i least most)
+  where
+    by : {t : ℕ} → Label t → (1 ≤ t) × (t ≤ 3)
+    by is_h = (omega arith, omega arith)
+    by is_v = (omega arith, omega arith)
+    by is_b = (omega arith, omega arith)

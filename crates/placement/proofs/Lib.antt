@@ -6,6 +6,7 @@ pub mod Count
 pub mod Sentences
 pub mod Sound
 pub mod Filled
+pub mod FillingLaws
 pub mod Wanted
 pub mod Stores
 pub mod Heads

@@ -52,7 +52,7 @@ map_refused s room e r after returned read none =
     rw (passed_on r e returned) (answered_on job_of _ _ (accepted s) _ room e after (sym read) none)
 
 -- the numbers of the wires don't depend on the outputs
-same_numbers : (h : Holder) (outs : List ℕ) (w : List IdWires) → WireNumbers (held h []) w → WireNumbers (held h outs) w
+pub same_numbers : (h : Holder) (outs : List ℕ) (w : List IdWires) → WireNumbers (held h []) w → WireNumbers (held h outs) w
 unfolding held id_count entry entries row_of column_of has_row has_column wires_of
 same_numbers h outs w numbers = record { number = numbers.number }
 

@@ -105,7 +105,7 @@ impl Plan<'_> {
     // All cells, those of terminal 1 and of the nodes, into a buffer of zeros. By ids and not by the nodes, since the
     // wires are numbered by ids.
     #[tactic(auto, using(crate::proofs::Plans::plans, crate::proofs::Wanted::own_within, crate::proofs::Stores::nodes_more), unfolding(crate::specs::Filling::with_nodes, diagram::specs::Diagram::id_count))]
-    pub(crate) fn all_cells(&self, cells: &mut [u8])
+    pub fn all_cells(&self, cells: &mut [u8])
         requires zero { cells.old ≡ zeros (length cells.old) }
         requires room { row_count self.now * column_count self.now ≤ length cells.old }
         ensures { cells.new ≡ padded (length cells.old) (codes self.now) }

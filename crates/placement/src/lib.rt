@@ -1,9 +1,9 @@
 // Placement: from a job to its crossbar.
 #![tactic(auto)]
 
-mod filling; // filling.rt: the cells, stored one after another
+pub mod filling; // filling.rt: the cells, stored one after another
 pub mod mapping; // mapping.rt: the call map
-mod record; // record.rt: the record of a crossbar
+pub mod record; // record.rt: the record of a crossbar
 
 use common::MAX_IDS;
 use diagram::{Diagram, IdWires};
@@ -12,7 +12,7 @@ use std::marker::Model;
 
 // What is placed: an accepted job, the diagram of its nodes, and the numbers of its wires by id, in an array since nothing may allocate.
 #[derive(Drop)]
-pub(crate) struct Plan<'a> {
+pub struct Plan<'a> {
     job: &'a Job,
     diagram: Diagram<'a>,
     wires: &'a [IdWires; MAX_IDS],

@@ -10,7 +10,7 @@ use common::{Fault, MAX_NODES, Refusal};
 use diagram::Node;
 use diagram::wires::number_wires;
 use jobs::Job;
-use jobs::reading::read_job;
+use jobs::reading::read_diagram;
 
 // Ground 14: whether a buffer is shorter than the R·C cells of a job's crossbar, of which there is no record yet.
 fn is_short(job: &Job, room: usize) -> bool
@@ -26,7 +26,7 @@ pub fn map(text: &[u8], cells: &mut [u8]) -> Result<Crossbar, Refusal>
 {
     cells.fill(0);
     let mut nodes = [Node::default(); MAX_NODES];
-    let job = read_job(text, &mut nodes)?;
+    let job = read_diagram(text, &mut nodes)?;
     if is_short(&job, cells.len()) {
         return Err(Fault::NoRoom.at(0));
     }

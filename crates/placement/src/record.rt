@@ -26,7 +26,7 @@ impl Plan<'_> {
 
     // R, C, V, K and the output rows.
     #[tactic(auto, using(crate::proofs::Plans::plans, crate::proofs::Plans::head_is))]
-    pub(crate) fn head(&self) -> Crossbar
+    pub fn head(&self) -> Crossbar
         ensures { result ≡ crossbar self.now }
     {
         let job = self.job;

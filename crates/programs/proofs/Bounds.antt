@@ -3,7 +3,7 @@ use Prim.Native.Nat.{ℕ, suc, ◌+◌, ◌*◌, ◌≤◌}
 use mathlib.Core.Path.{◌≡◌, refl}
 use mathlib.Core.List.{List, [], ◌∷◌}
 use native.Mathlib.Omega.{arith}
-use lib.ListN.{length, take, length-append, length-take}
+use lib.ListN.{length, take, length-append, length-take, length-replicate}
 use Rattle.common.specs.Limits.{max_rows, max_columns, max_outputs, max_text}
 use Rattle.common.specs.Outcome.{Outcome, done, refused}
 use Rattle.common.proofs.Outcome.{then_done, unless_done}
@@ -23,6 +23,7 @@ use Rattle.programs.specs.Programs.{program_text, input_fits, map_program, set_l
 use Rattle.programs.specs.Texts.{whole_or_none}
 use Rattle.programs.proofs.Printing.{mapping, map_maps, light_outputs, whole, lighting}
 use Rattle.programs.proofs.Texts.{room_fits}
+use Rattle.common.specs.Lists.{zeros}
 
 -- the bytes of each line
 refused_most : (k n : ℕ) → length (line refused_form (k ∷ n ∷ [])) ≤ 22
@@ -103,3 +104,7 @@ map_whole s room h = room_fits room (length (map_program s)) (map_program s) (om
 pub light_whole : (s : List ℕ) (room : ℕ) → max_text ≤ room → whole_or_none room (light_program s) ≡ done (light_program s)
 unfolding whole_or_none
 light_whole s room h = room_fits room (length (light_program s)) (light_program s) (omega (arith, light_most s))
+
+-- a buffer of that many zeros
+pub zeros_hold : max_text ≤ length (zeros max_text)
+zeros_hold = rw (length-replicate {A = ℕ} max_text 0) (omega arith)

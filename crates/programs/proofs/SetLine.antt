@@ -6,7 +6,7 @@ use mathlib.Core.Bool.{true, false, not, ◌&&◌}
 use mathlib.Core.Option.{Option, some, none, map}
 use mathlib.Core.List.{List, [], ◌∷◌, ◌++◌, append_assoc, append-nil}
 use native.Mathlib.Omega.{arith}
-use lib.ListN.{length, take, set, length-append, length-set}
+use lib.ListN.{length, take, set, length-append, length-set, length-replicate}
 use lib.Seq.{length-take-le}
 use lib.Dec.{eqb, leb}
 use borrow.Author.Tests.{ne_eqb, le-leb, lt-leb}
@@ -16,9 +16,9 @@ use Rattle.std.specs.Prelude.{Some, None, MatchOption}
 use Rattle.std.proofs.lemmas.Bool.{cases_Bool, cases_eq}
 use Rattle.std.proofs.Math.Bool.{and-false}
 use Rattle.common.specs.Limits.{max_switches}
-use Rattle.common.specs.Lists.{all_of}
-use Rattle.common.specs.Outcome.{done, refused, ◌then◌, ◌when◌, lowest, unless}
-use Rattle.common.proofs.Lists.{and_left, and_right, all_of_append, all_of_single}
+use Rattle.common.specs.Lists.{zeros, padded, all_of}
+use Rattle.common.specs.Outcome.{done, refused, ◌then◌, ◌when◌, lowest, unless, buffer_of}
+use Rattle.common.proofs.Lists.{and_left, and_right, padded-set, all_of_append, all_of_single}
 use Rattle.common.proofs.Outcome.{unless_then}
 use Rattle.figures.specs.Bytes.{bytes, after}
 use Rattle.figures.specs.Figure.{Figured, is_digit, take_figure, decimal}
@@ -149,9 +149,10 @@ unfolding ahead
 ahead_more us v none = refl
 ahead_more us v (some vs) = ap some (sym (append_assoc us (v ∷ []) vs))
 
--- the line l is read: `found` begins with the first `count` figures of it, and `rest` is left
+-- the line l is read: `found` has the first `count` figures of it and zeros past them, and `rest` is left
 pub record Reading (l rest found : List ℕ) (count : ℕ) : Type 0 where
   pub long : length found ≡ max_switches
+  pub clear : found ≡ padded max_switches (take count found)
   pub low : all_of (λ b. leb b 1) (take count found) ≡ true
   pub so_far : values (set_form (blanks l)) l ≡ ahead (take count found) (figures_in rest)
 
@@ -161,12 +162,13 @@ module _ (l : List ℕ) where
   unfolding set_form SetIs
   reading_other found h = line_none l (word_none "(set" (set_figures (blanks l)) l h)
 
-  pub reading_start : (s found : List ℕ) → after (bytes "(set") l ≡ some s → length found ≡ max_switches → Reading l s found 0
-  unfolding set_form all_of figures_in
-  reading_start s found a long =
+  pub reading_start : (s found : List ℕ) → after (bytes "(set") l ≡ some s → found ≡ zeros max_switches → Reading l s found 0
+  unfolding set_form all_of figures_in padded max_switches
+  reading_start s found a clear =
       let b : blanks l ≡ blanks s = ap blanks (after_taken (bytes "(set") l s a) ∙ set-blanks s in
       record {
-        long = long;
+        long = rw clear (length-replicate {A = ℕ} max_switches 0);
+        clear = clear;
         low = refl;
         so_far =
             ap (λ (n : ℕ). values (set_form n) l) b
@@ -202,6 +204,7 @@ module _ (l rest found : List ℕ) (count : ℕ) (r : Reading l rest found count
           let t : take (count + 1) (set found count f.figure) ≡ take count found ++ (f.figure ∷ []) = take_more_set found count f.figure (omega (arith, r.long)) in
           record {
             long = simp length-set r.long;
+            clear = rw t (ap (λ (u : List ℕ). set u count f.figure) r.clear ∙ padded-set max_switches (take count found) count f.figure (length-take-le count found (omega (arith, r.long))) k);
             low = rw t (all_of_append (λ b. leb b 1) (take count found) (f.figure ∷ []) r.low (all_of_single (λ b. leb b 1) f.figure (le-leb f.figure 1 low)));
             so_far = next ∙ ahead_more (take count found) f.figure (figures_in f.rest) ∙ ap (λ (u : List ℕ). ahead u (figures_in f.rest)) (sym t);
           }
@@ -215,7 +218,7 @@ module _ (l rest found : List ℕ) (count : ℕ) (r : Reading l rest found count
       let all : values (set_form (blanks l)) l ≡ some (take count found) =
       r.so_far ∙ ap (λ (t : List ℕ). ahead (take count found) (figures_in t)) e ∙ ap (ahead (take count found)) figures_end ∙ ap some (append-nil (take count found))
       in
-      (within, line_found l (take count found) all (omega arith) r.low)
+      (few, line_found l (take count found) all (omega arith) r.low, r.clear)
 
   -- anything else, where no figure follows or no more may follow
   pub reading_wrong :
@@ -304,8 +307,17 @@ module _ (s : List ℕ) where
     unfolding SetIs ◌then◌
     set_done n h = whole ∙ rw h.1
 
-pub set_within : (l figures : List ℕ) (n : ℕ) → SetIs l (Some n) figures → n ≤ length figures
+    pub set_buffer : (n : ℕ) → SetIs l (Some n) figures → figures ≡ buffer_of max_switches (λ t. t.vals) (set_line (lines_of s))
+    unfolding SetIs buffer_of
+    set_buffer n h = rw (set_done n h) h.2
+
+  -- the buffer of a refusal
+  pub set_clear : (figures : List ℕ) → set_line (lines_of s) ≡ refused 1 1 → figures ≡ zeros max_switches → figures ≡ buffer_of max_switches (λ t. t.vals) (set_line (lines_of s))
+  unfolding buffer_of
+  set_clear figures h z = rw h z
+
+pub set_within : (l figures : List ℕ) (n : ℕ) → SetIs l (Some n) figures → n ≤ max_switches
 unfolding SetIs
 set_within l figures n h = h.0
 
-pub ruleset first = (set_absent, set_refused, set_done, set_within)
+pub ruleset first = (set_absent, set_refused, set_done, set_buffer, set_clear, set_within)

@@ -27,6 +27,10 @@ pub room_short : (room n : ℕ) (s : List ℕ) → room < n → in_room room n s
 unfolding in_room lowest unless
 room_short room n s h = rw (lt-ltb room n h)
 
+-- the text of what was said, said otherwise
+pub said_as : (room n : ℕ) (out s t : List ℕ) → s ≡ t → Said room s n out → Said room t n out
+said_as room n out s t e h = rw (← e) h
+
 -- what an output reads, by the number of its row
 pub reading-lit : (firsts : List ℕ) (r : ℕ) → (get_or firsts r 0 ≡ 0 → ⊥) → 1 ≡ reading firsts r
 unfolding reading bit

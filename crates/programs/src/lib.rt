@@ -31,13 +31,14 @@ fn fits(input: &[u8]) -> Result<(), Refusal>
 }
 
 // The length of a program's text, or of the line of its refusal, which is written now.
+#[tactic(auto, unfolding(crate::specs::Texts::refusal_line))]
 fn told(out: &mut [u8], text: Result<usize, Refusal>) -> usize
     ensures { MatchResult text (λ n. (result ≡ n) × (out.new ≡ out.old))
         (λ e. Said (length out.old) (refusal_line e) result out.new) }
 {
     match text {
         Ok(length) => length,
-        Err(refusal) => refuse(out, refusal),
+        Err(refusal) => refuse(out, refusal.fault.number(), refusal.line),
     }
 }
 
@@ -61,16 +62,17 @@ pub fn map_text(input: &[u8], out: &mut [u8]) -> usize
 }
 
 // The readings of a set line and a listing. "Its lines count over the whole input": the listing starts on line 2.
+#[tactic(auto, unfolding(common::specs::Limits::max_switches))]
 fn print_lit(input: &[u8], out: &mut [u8]) -> Result<usize, Refusal>
     ensures { Untold (length out.old) (light_program input.now) result out.new }
 {
     fits(input)?;
     let mut figures = [0u8; MAX_SWITCHES];
-    let (setting, text) = set_line(input, &mut figures).ok_or(Fault::NotDue.at(1))?;
+    let (count, text) = set_line(input, &mut figures).ok_or(Fault::NotDue.at(1))?;
     let mut cells = [0u8; MAX_ROWS * MAX_COLUMNS];
     let x = load_at(text, 2, &mut cells)?;
     let mut firsts = [0u16; MAX_ROWS + MAX_COLUMNS];
-    let rounds = light(x, &cells, setting, &mut firsts)?;
+    let rounds = light(x, &cells, &figures[..count], &mut firsts)?;
     let lit = LitCrossbar {
         crossbar: x,
         rounds: u32::from(rounds),

@@ -1,14 +1,15 @@
 // Document 01, "Two programs": the lines that a program prints. They are written as those of a listing.
-ghost use Rattle.std.specs.Prelude.{◌≡◌, ◌≤◌, length, take, MatchOption};
+ghost use Rattle.std.specs.Prelude.{◌≡◌, ◌∷◌, [], ◌≤◌, length, take, MatchOption};
 ghost use Rattle.common.specs.Limits.{max_outputs};
 ghost use Rattle.common.specs.Lists.{zeros};
+ghost use Rattle.forms.specs.Template.{line};
+ghost use Rattle.forms.specs.Forms.{refused_form};
 ghost use Rattle.forms.specs.Written.{Written};
 ghost use Rattle.forms.specs.Wrote.{Wrote};
 ghost use Rattle.programs.specs.Programs.{reading, reads_lines};
-ghost use Rattle.programs.specs.Texts.{Said, refusal_line};
+ghost use Rattle.programs.specs.Texts.{Said};
 
 use cells::Crossbar;
-use common::Refusal;
 use forms::write::Writer;
 
 // A buffer whose bytes up to the position were written: the position, or 0 and zeros in the whole buffer where they did not fit. A text has
@@ -28,21 +29,21 @@ fn said(out: &mut [u8], past: Option<usize>) -> usize
 
 // `(refused n line)`, at the buffer's start. A writer is made, handed on and asked for its length here, for the readings and for a listing: one
 // function over a closure would ask of each that it writes a text, which would have to be named and shown there.
-#[tactic(auto, using(forms::proofs::Parts::wrote_whole), unfolding(forms::specs::Wrote::past, crate::specs::Texts::refusal_line))]
-fn write_refusal(out: &mut [u8], refusal: Refusal) -> Option<usize>
-    ensures { Written out.old out.new 0 (refusal_line refusal) result }
+#[tactic(auto, using(forms::proofs::Parts::wrote_whole), unfolding(forms::specs::Wrote::past))]
+fn write_refusal(out: &mut [u8], ground: u32, number: u32) -> Option<usize>
+    ensures { Written out.old out.new 0 (line refused_form (ground ∷ number ∷ [])) result }
 {
     let mut writer = Writer::new(out);
-    writer.refused_line(refusal.fault.number(), refusal.line)?;
+    writer.refused_line(ground, number)?;
     Some(writer.written)
 }
 
-// `(refused n line)`
-pub fn refuse(out: &mut [u8], refusal: Refusal) -> usize
-    ensures { Said (length out.old) (refusal_line refusal) result out.new }
+// `(refused n line)`, of any two numbers, as `Writer::refused_line` writes it.
+pub fn refuse(out: &mut [u8], ground: u32, number: u32) -> usize
+    ensures { Said (length out.old) (line refused_form (ground ∷ number ∷ [])) result out.new }
 {
     out.fill(0);
-    let past = write_refusal(out, refusal);
+    let past = write_refusal(out, ground, number);
     said(out, past)
 }
 

@@ -1,10 +1,11 @@
--- `figures::write_figure` meets its contract: what is still to be stored, stored into what is there, is the same list in each turn.
-use mathlib.Core.Path.{sym, ◌∙◌}
+-- `figures::write_figure` meets its contract: a digit that is written changes no length.
+use Prim.Native.Nat.{◌+◌, ◌%◌}
 use native.Mathlib.Omega.{arith}
-use Rattle.figures.proofs.Writing.{fill_done, fill_decimal}
+use lib.ListN.{length-set}
+use Rattle.figures.proofs.Writing.{length_two}
 use Rattle.figures.proofs.write_figure.Goals as goal
 
-pub returns : goal.returns
-returns c =
-    let a = c.args in
-    sym (fill_done _ c.loop-j.left c.loop-j.out (omega arith)) ∙ c.loop-j.invariant ∙ fill_decimal _ a.n a.out.now c.figure_length-count.ensures c.requires
+pub bounds-out-0-then-n-lt100 : goal.bounds-out-0-then-n-lt100
+bounds-out-0-then-n-lt100 c =
+    let two = length_two c.args.n c.if-n-lt10.false c.if-n-lt100.true in
+    omega (arith, c.requires, two, length-set c.args.out.now 1 (48 + c.args.n % 10))

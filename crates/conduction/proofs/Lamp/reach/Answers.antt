@@ -1,12 +1,41 @@
 -- `conduction::Lamp::reach` meets its contract: the wires up to the next four are sorted.
-use Prim.Native.Nat.{◌+◌, ◌-◌, ◌*◌, ◌/◌, ◌<◌, ◌≤◌}
-use mathlib.Core.Path.{◌≡◌, refl, ap, ◌∙◌}
+use Prim.Native.Nat.{ℕ, ◌+◌, ◌-◌, ◌*◌, ◌/◌, ◌<◌, ◌≤◌}
+use mathlib.Core.Path.{◌≡◌, refl, sym, ap, ◌∙◌}
+use mathlib.Core.Logic.{⊎_elim}
+use mathlib.Core.Bool.{Bool, true, false}
+use mathlib.Core.List.{List}
 use native.Mathlib.Omega.{arith}
-use lib.ListN.{length}
-use Rattle.conduction.specs.Wires.{no_key}
+use lib.ListN.{length, get_or}
+use lib.Dec.{eqb}
+use borrow.Author.Tests.{eqb-true}
+use Rattle.std.specs.List.{list_all}
+use Rattle.std.proofs.lemmas.Bool.{cases_Bool}
+use Rattle.std.proofs.lemmas.List.Folds.{list_all_at}
+use Rattle.conduction.specs.declared.Key.{Key}
+use Rattle.conduction.specs.declared.Lamp.{Lamp}
+use Rattle.conduction.specs.Wires.{no_key, passes, Sorted}
 use Rattle.conduction.proofs.Sorting.{exchanged_all, sorted_none, sorted_pass, sorted_on, part_long, part_entry}
 use Rattle.conduction.proofs.Lamp.reach.Goals as goal
 use Rattle.conduction.proofs.Lamp.reach.Goals.{then-not-all_off, else-not-all_off}
+
+-- off does not conduct
+off_dark :
+    (lamp : Lamp) (keys : List Key) → list_all (λ k. eqb (get_or lamp.cells.now k.adds 0) 0) keys ≡ true
+    → (k : ℕ) → k < length keys → passes lamp (get_or keys k no_key).adds ≡ false
+unfolding passes
+off_dark lamp keys all k h =
+    let off = λ (w : Key). eqb (get_or lamp.cells.now w.adds 0) 0 in
+    let code = get_or lamp.cells.now (get_or keys k no_key).adds 0 in
+    ⊎_elim
+    (λ (t : off (get_or keys k no_key) ≡ true). let zero : code ≡ 0 = eqb-true code 0 t in rw zero lamp.off)
+    (λ (f : off (get_or keys k no_key) ≡ false). let e = list_all_at off keys k no_key h f in absurd cc)
+    (cases_Bool (off (get_or keys k no_key)))
+
+-- a part that ends at the same place
+sorted_up :
+    (f : Key → Bool) (first : ℕ) (l l' : List Key) (lit i : ℕ) → Sorted f first l l' lit i
+    → (end : ℕ) → i ≡ end → Sorted f first l l' lit end
+sorted_up f first l l' lit i sorted end e = rw (← e) sorted
 
 pub loop-i-init : goal.loop-i-init
 loop-i-init c = (refl, c.requires, sorted_none _ _ _ _ (omega arith) (λ k p q. absurd (omega arith)))
@@ -23,7 +52,8 @@ loop-i-preserved c =
                 (λ k h.
                 exchanged_all (λ w. w.adds < length c.args.self.cells.now) _ _ _ sorting.ensures.exchanged inv.1 k
                 (omega (arith, h, sorting.auto.keys))),
-            rw (next, w.keys-is, w.lit-is) (sorted_on _ _ _ _ _ _ inv.2 _ _ _ inv.0 (omega arith) sorting.ensures),
+            rw (w.keys-is, w.lit-is)
+                (sorted_up _ _ _ _ _ _ (sorted_on _ _ _ _ _ _ inv.2 _ _ _ inv.0 (omega arith) sorting.ensures) _ (omega arith)),
           )
       | else-not-all_off w ↦ (
         ap length w.keys-is ∙ inv.0,
@@ -36,7 +66,7 @@ loop-i-preserved c =
             let in_part : at + 4 ≤ length keys = omega (arith, inv.0) in
             let there : at + (k - at) ≡ k = omega arith in
             let entry = part_entry keys at (at + 4) (k - at) no_key (omega arith) in
-            rw (entry, there) at (c.all_off.ensures w.if-not-all_off.false (k - at) (omega (arith, part_long keys at (at + 4) in_part))))),
+            rw (entry, there) at (off_dark c.args.self _ (sym c.all_off.ensures ∙ w.if-not-all_off.false) (k - at) (omega (arith, part_long keys at (at + 4) in_part))))),
       )
     ]
 

@@ -2,11 +2,22 @@
 use Prim.Native.Nat.{◌+◌, ◌-◌, ◌<◌, ◌≤◌}
 use mathlib.Core.Path.{◌≡◌, refl, ap, ◌∙◌}
 use native.Mathlib.Omega.{arith}
+use borrow.Author.Rules.{rules}
 use lib.ListN.{length, get_or, length-drop}
-use Rattle.conduction.specs.Wires.{no_key, passes}
-use Rattle.conduction.proofs.Sorting.{exchanged_all, rest_long, rest_entry, put_long, sorted_rest}
+use Rattle.conduction.specs.Wires.{no_key, passes, joined_to}
+use Rattle.conduction.proofs.Sorting.{sorted_none, exchanged_all, rest_long, rest_entry, put_long, sorted_rest}
 use Rattle.conduction.proofs.Parts.{spread_none, spread_more}
 use Rattle.conduction.proofs.Lamp.spread.Goals as goal
+
+pub returns-then-is_empty : goal.returns-then-is_empty
+returns-then-is_empty c =
+    let none : length c.args.dark.now ≡ 0 = search rules in
+    sorted_none (joined_to c.args.self c.args.front.now) 0 c.args.dark.now _ (omega arith) (λ k p q. absurd (omega arith))
+
+pub of_wire-requires : goal.of_wire-requires
+of_wire-requires c =
+    let some : 0 < length c.args.dark.now = search rules in
+    omega (arith, c.requires.meeting c.loop-key.key-index 0 c.loop-key-test.true some)
 
 pub loop-key-init : goal.loop-key-init
 loop-key-init c = (refl, spread_none _ _)

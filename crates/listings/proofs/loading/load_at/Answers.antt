@@ -1,18 +1,14 @@
 -- `listings::loading::load_at` meets its contract: what the reader of lines answers, and zeros in the buffer after a refusal.
-use mathlib.Core.Path.{◌≡◌, sym, ◌∙◌}
-use native.Mathlib.Omega.{arith}
+use mathlib.Core.Path.{sym, ◌∙◌}
 use borrow.Author.Rules.{rules}
-use lib.ListN.{length}
 use Rattle.listings.proofs.Loads.{answers_refused, answers_done}
 use Rattle.listings.proofs.loading.load_at.Goals as goal
 
 pub returns-then-is_err : goal.returns-then-is_err
 returns-then-is_err c =
-    let e : length c.fill.new.self ≡ length c.args.cells.now = omega arith in
-    answers_refused _ (λ w. w.head) _ _ (rw e at c.load_lines-loaded.ensures.answer) _ (sym c.is_err.ensures.value ∙ c.if-is_err.true) (search rules)
+    answers_refused _ (λ w. w.head) _ _ c.load_lines-loaded.ensures.answer _ (sym c.is_err.ensures.value ∙ c.if-is_err.true) (search rules)
 
 pub returns-else-is_err : goal.returns-else-is_err
 returns-else-is_err c =
-    let e : length c.fill.new.self ≡ length c.args.cells.now = omega arith in
-    answers_done _ (λ w. w.head) _ _ (rw e at c.load_lines-loaded.ensures.answer) _ (sym c.is_err.ensures.value ∙ c.if-is_err.false)
-    (rw e at c.load_lines-loaded.ensures.filled)
+    answers_done _ (λ w. w.head) _ _ c.load_lines-loaded.ensures.answer _ (sym c.is_err.ensures.value ∙ c.if-is_err.false)
+    c.load_lines-loaded.ensures.filled

@@ -35,7 +35,7 @@ unfolding max_input
 overflow_add-first c = omega arith
 
 pub load_cells-requires : goal.load_cells-requires
-load_cells-requires c = (omega arith, c.requires.1)
+load_cells-requires c = (omega arith, search rules)
 
 pub returns-in_err-left-clause-answer : goal.returns-in_err-left-clause-answer
 returns-in_err-left-clause-answer c =
@@ -90,5 +90,6 @@ returns-clause-filled c =
     let right = first_right c.args.text.now c.args.line room c.in-Size.f _ d c.in_ok-s.s.form (search rules) in
     let k = c.in_ok-left.ensures in
     let same = right ∙ ap (λ o. o then λ x. fitted room x) k.same ∙ outs_done c.in_ok-s.s.form k.codes room _ _ _ c.in_ok-outs.ensures in
-    fitted_cells c.in_ok-s.s.form k.codes c.in_ok-outs.outs room (omega arith) (omega (arith, c.cells.ensures)) k.holds k.short
+    let e : length c.fill.new.self ≡ room = omega arith in
+    fitted_cells c.in_ok-s.s.form k.codes c.in_ok-outs.outs room (omega arith) (omega (arith, c.cells.ensures)) (rw e at k.holds) k.short
     ∙ ap (buffer_of room (λ w. w.codes)) (sym same)

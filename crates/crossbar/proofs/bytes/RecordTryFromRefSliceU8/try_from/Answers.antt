@@ -1,48 +1,44 @@
--- `crossbar::bytes::Record::try_from` meets its contract: the output rows are the table of the numbers from place 4 on.
-use Prim.Native.Nat.{ℕ, ◌+◌, ◌<◌}
-use mathlib.Core.Path.{◌≡◌, ◌∙◌}
+-- `crossbar::bytes::Record::try_from` meets its contract: what is tested is the bytes past a record.
+use Prim.Native.Nat.{ℕ, ◌≤◌}
+use mathlib.Core.Path.{◌≡◌, sym, ◌∙◌}
+use mathlib.Core.Bool.{Bool}
+use mathlib.Core.List.{List}
 use native.Mathlib.Omega.{arith}
-use mathlib.Core.List.{List, []}
+use lib.Dec.{eqb}
+use lib.ListN.{length, take, drop}
 use Rattle.std.proofs.Common.{rules}
-use Rattle.std.specs.Int.{w16, from_le_bytes}
-use lib.ListN.{get_or}
+use Rattle.std.proofs.lemmas.List.{take_all}
 use Rattle.common.specs.Limits.{max_outputs}
-use Rattle.common.specs.Lists.{tab}
-use Rattle.cells.specs.declared.Crossbar.{Crossbar}
-use Rattle.crossbar.specs.Bytes.{record_length, record_from, number_at}
-use Rattle.common.proofs.FromFn.{made_tab}
-use Rattle.common.proofs.Lists.{tab_agree}
-use Rattle.crossbar.proofs.Pairs.{number_from}
-use Rattle.crossbar.proofs.Records.{one_is}
+use Rattle.common.specs.Lists.{all_of}
+use Rattle.crossbar.specs.Bytes.{record_length}
+use Rattle.crossbar.proofs.Records.{none_short, none_past, one_is}
 use Rattle.crossbar.proofs.bytes.RecordTryFromRefSliceU8.try_from.Goals as goal
+use Rattle.crossbar.proofs.bytes.RecordTryFromRefSliceU8.try_from.Goals.{in_default-via-in-Some+else-is_zero, in_default-via-in_default}
 
-record_is :
-    (s outs : List ℕ) (r c v k : ℕ)
-    → r ≡ number_at s 0
-    → c ≡ number_at s 1
-    → v ≡ number_at s 2
-    → k ≡ number_at s 3
-    → outs ≡ tab max_outputs (λ i. number_at s (4 + i))
-    → ◌≡◌ {A = Crossbar} (record { rows = r; columns = c; switches = v; outputs = k; outs = outs }) (record_from s)
-unfolding record_from
-record_is s outs r c v k er ec ev ek e = rw (er, ec, ev, ek, e)
+-- a part that is the whole: the bytes that are tested may be named by a range of those past a record
+part_whole : (s : List ℕ) (from n : ℕ) → from ≡ 0 → length s ≤ n → take n (drop from s) ≡ s
+part_whole s from n e h = rw (e, take_all n s h)
+
+-- what a test of some bytes says of the bytes past a record, where they are the same
+zero_of : (past tested : List ℕ) (r b : Bool) → r ≡ all_of (λ b. eqb b 0) tested → r ≡ b → tested ≡ past → all_of (λ b. eqb b 0) past ≡ b
+zero_of past tested r b e is same = rw (← same) (sym e ∙ is)
 
 pub returns-in-Some : goal.returns-in-Some
 unfolding record_length max_outputs
 returns-in-Some c =
-    let s = c.args.s.now in
     let split = c.in-Some.ensures.cases in
-    let ps = c.as_chunks.result.0.now in
-    let read : (i : ℕ) → i < 4 + max_outputs → from_le_bytes w16 (get_or ps i []) ≡ number_at s i =
-    λ i below. number_from s record_length c.in-Some.record.now ps i split.0 (search rules) c.as_chunks.ensures.front (omega arith)
-    in
-    let made = made_tab 0 _ (λ j. from_le_bytes w16 (get_or ps (4 + j) [])) _ (λ q i y k. search rules) _ _ c.from_fn.ensures.items in
-    let x =
-    record_is s _ _ _ _ _
-    (c.from_le_bytes.ensures ∙ read 0 (omega arith))
-    (c.from_le_bytes-in-Some.ensures ∙ read 1 (omega arith))
-    (c.from_le_bytes-in-Some-2.ensures ∙ read 2 (omega arith))
-    (c.from_le_bytes-in-Some-3.ensures ∙ read 3 (omega arith))
-    (made ∙ tab_agree max_outputs _ _ (λ k below. read (4 + k) (omega arith)))
-    in
-    one_is s c.in-Some.past.now _ split.0 (search rules) (search rules) x
+    let zero = zero_of c.in-Some.past.now _ _ _ c.is_zero.ensures c.if-is_zero.true (search (arith, part_whole)) in
+    one_is c.args.s.now c.in-Some.past.now _ split.0 (search rules) zero c.read_record.ensures
+
+pub returns-in_default : goal.returns-in_default
+unfolding record_length max_outputs
+returns-in_default c =
+    let s = c.args.s.now in
+    rw c.at.ensures
+    (elim c.in_default.branch [
+      | in_default-via-in-Some+else-is_zero w ↦
+          let split = w.in-Some.ensures.cases in
+          let other = zero_of w.in-Some.past.now _ _ _ w.is_zero.ensures w.if-is_zero.false (search (arith, part_whole)) in
+          none_past s w.in-Some.past.now split.0 (search rules) other
+      | in_default-via-in_default w ↦ none_short s (search rules)
+    ])
