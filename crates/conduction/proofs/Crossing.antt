@@ -6,7 +6,7 @@ use mathlib.Core.Logic.{inl, inr, ⊎_elim}
 use mathlib.Core.Bool.{Bool, true, false}
 use mathlib.Core.List.{List}
 use native.Mathlib.Omega.{arith}
-use native.Mathlib.Nat.{pos_of_ne-zero}
+use native.Mathlib.Nat.{le_trans, mul-le-mul_right, pos_of_ne-zero}
 use borrow.Rule.Slice.PartMut.{put_mid}
 use lib.Arith.{digits_lt}
 use lib.ListN.{length, get_or}
@@ -153,6 +153,15 @@ module _
     (sides : Sides m n joined lamp first step (length from) first' step' (length to))
     (ready : TurnReady first step first' step' from to stamps last head tail dark)
   where
+    -- what a wire of the front adds is not past the cells
+    begins :
+        ((x : ℕ) → x < length from → x * step ≤ length lamp.cells.now)
+        → (j : ℕ) → j < length (part from head tail) → (get_or (part from head tail) j no_key).adds ≤ length lamp.cells.now
+    begins begin j p =
+        let fronts = part_long from head tail ready.front.within in
+        let a = ready.lit.each (head + j) (omega (arith, p, fronts, ready.front.within)) in
+        rw (part_entry from head tail j no_key (omega (arith, p, fronts)), a.2) (begin a.0 a.1)
+
     -- the cells where the wires meet are there
     spreadable :
         ((x y : ℕ) → x < length from → y < length to → x * step + y * step' < length lamp.cells.now)
@@ -225,6 +234,22 @@ module _
           (λ c r q p. omega (arith, digits_lt p q, fits.cells_fit)),
       placed _ _ _ _ _ _ _ _ _ _ _ _ _ _ _ back_sides (standing.odd parity) (omega (arith, fits.wires_fit)),
     )
+
+    -- and where the wires of the front begin, whether or not a wire is dark
+    row_within : (r : ℕ) → r < length rows → r ≤ length rows
+    row_within r h = omega arith
+
+    pub begins_across :
+        t % 2 ≡ 0 → (j : ℕ) → j < length (part rows head tail) → (get_or (part rows head tail) j no_key).adds ≤ length lamp.cells.now
+    begins_across parity =
+        begins _ _ _ _ _ _ _ _ _ _ _ _ _ _ _ across_sides (standing.even parity)
+        (λ r p. le_trans (mul-le-mul_right (length columns) (row_within r p)) fits.cells_fit)
+
+    pub begins_back :
+        (t % 2 ≡ 0 → ⊥) → (j : ℕ) → j < length (part columns head tail) → (get_or (part columns head tail) j no_key).adds ≤ length lamp.cells.now
+    begins_back parity =
+        begins _ _ _ _ _ _ _ _ _ _ _ _ _ _ _ back_sides (standing.odd parity)
+        (λ c q. omega (arith, digits_lt fits.row_0 q, fits.cells_fit))
 
     -- a stamp is a number of 16 bits
     pub stamp_fits : t < length rows + length columns → t + 2 < 65536

@@ -8,8 +8,10 @@ use native.Mathlib.Omega.{arith}
 use lib.ListN.{length, get_or, set, take, drop}
 use lib.Seq.{get_or-set_same, get_or-set_other}
 use lib.Dec.{eqb, leb}
-use borrow.Author.Tests.{eq-eqb, ne_eqb, leb-true, le-leb}
+use borrow.Author.Tests.{eqb-true, eq-eqb, ne_eqb, leb-true, le-leb}
+use Rattle.std.specs.List.{list_all}
 use Rattle.std.proofs.lemmas.List.{get_or-drop, take_more}
+use Rattle.std.proofs.lemmas.List.Folds.{list_all_at}
 use Rattle.std.proofs.lemmas.List.Recursion.{or_push}
 use Rattle.std.proofs.Math.Bool.{or_comm}
 use Rattle.std.proofs.lemmas.Bool.{cases_eq, or_cases, cases_Bool}
@@ -65,6 +67,19 @@ of_wire_passes :
     (lamp at-wire : Lamp) (a b : ℕ) → at-wire.cells.now ≡ drop a lamp.cells.now → at-wire.on.now ≡ lamp.on.now → passes at-wire b ≡ passes lamp (a + b)
 unfolding passes
 of_wire_passes lamp at-wire a b e f = rw (e, f, get_or-drop a lamp.cells.now b 0)
+
+-- where the cells of keys are off, none of their wires is joined
+pub off_keys :
+    (lamp : Lamp) (keys : List Key) → list_all (λ k. eqb (get_or lamp.cells.now k.adds 0) 0) keys ≡ true
+    → (k : ℕ) → k < length keys → passes lamp (get_or keys k no_key).adds ≡ false
+unfolding passes
+off_keys lamp keys all k h =
+    let off = λ (w : Key). eqb (get_or lamp.cells.now w.adds 0) 0 in
+    let code = get_or lamp.cells.now (get_or keys k no_key).adds 0 in
+    ⊎_elim
+    (λ (t : off (get_or keys k no_key) ≡ true). let zero : code ≡ 0 = eqb-true code 0 t in rw zero lamp.off)
+    (λ (f : off (get_or keys k no_key) ≡ false). let e = list_all_at off keys k no_key h f in absurd cc)
+    (cases_Bool (off (get_or keys k no_key)))
 
 -- one wire of the front more
 module _ (lamp : Lamp) (front : List Key) where

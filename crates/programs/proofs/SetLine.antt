@@ -30,7 +30,7 @@ use Rattle.forms.specs.Template.{figure, values}
 use Rattle.forms.specs.Forms.{set_figures, set_form}
 use Rattle.forms.proofs.Template.{values_word, values_figure, word_none, figure_none}
 use Rattle.programs.specs.Programs.{blanks, set_line}
-use Rattle.programs.specs.Setting.{SetIs}
+use Rattle.programs.specs.Setting.{SetIs, SetFilled}
 
 -- bytes that are no blanks
 blanks_other : (b : ℕ) (s : List ℕ) → (b ≡ 32 → ⊥) → blanks (b ∷ s) ≡ blanks s
@@ -149,10 +149,9 @@ unfolding ahead
 ahead_more us v none = refl
 ahead_more us v (some vs) = ap some (sym (append_assoc us (v ∷ []) vs))
 
--- the line l is read: `found` has the first `count` figures of it and zeros past them, and `rest` is left
+-- the line l is read: `found` begins with the first `count` figures of it, and `rest` is left
 pub record Reading (l rest found : List ℕ) (count : ℕ) : Type 0 where
   pub long : length found ≡ max_switches
-  pub clear : found ≡ padded max_switches (take count found)
   pub low : all_of (λ b. leb b 1) (take count found) ≡ true
   pub so_far : values (set_form (blanks l)) l ≡ ahead (take count found) (figures_in rest)
 
@@ -162,13 +161,12 @@ module _ (l : List ℕ) where
   unfolding set_form SetIs
   reading_other found h = line_none l (word_none "(set" (set_figures (blanks l)) l h)
 
-  pub reading_start : (s found : List ℕ) → after (bytes "(set") l ≡ some s → found ≡ zeros max_switches → Reading l s found 0
-  unfolding set_form all_of figures_in padded max_switches
-  reading_start s found a clear =
+  pub reading_start : (s found : List ℕ) → after (bytes "(set") l ≡ some s → length found ≡ max_switches → Reading l s found 0
+  unfolding set_form all_of figures_in
+  reading_start s found a long =
       let b : blanks l ≡ blanks s = ap blanks (after_taken (bytes "(set") l s a) ∙ set-blanks s in
       record {
-        long = rw clear (length-replicate {A = ℕ} max_switches 0);
-        clear = clear;
+        long = long;
         low = refl;
         so_far =
             ap (λ (n : ℕ). values (set_form n) l) b
@@ -204,7 +202,6 @@ module _ (l rest found : List ℕ) (count : ℕ) (r : Reading l rest found count
           let t : take (count + 1) (set found count f.figure) ≡ take count found ++ (f.figure ∷ []) = take_more_set found count f.figure (omega (arith, r.long)) in
           record {
             long = simp length-set r.long;
-            clear = rw t (ap (λ (u : List ℕ). set u count f.figure) r.clear ∙ padded-set max_switches (take count found) count f.figure (length-take-le count found (omega (arith, r.long))) k);
             low = rw t (all_of_append (λ b. leb b 1) (take count found) (f.figure ∷ []) r.low (all_of_single (λ b. leb b 1) f.figure (le-leb f.figure 1 low)));
             so_far = next ∙ ahead_more (take count found) f.figure (figures_in f.rest) ∙ ap (λ (u : List ℕ). ahead u (figures_in f.rest)) (sym t);
           }
@@ -218,7 +215,7 @@ module _ (l rest found : List ℕ) (count : ℕ) (r : Reading l rest found count
       let all : values (set_form (blanks l)) l ≡ some (take count found) =
       r.so_far ∙ ap (λ (t : List ℕ). ahead (take count found) (figures_in t)) e ∙ ap (ahead (take count found)) figures_end ∙ ap some (append-nil (take count found))
       in
-      (few, line_found l (take count found) all (omega arith) r.low, r.clear)
+      (within, line_found l (take count found) all (omega arith) r.low)
 
   -- anything else, where no figure follows or no more may follow
   pub reading_wrong :
@@ -278,7 +275,73 @@ module _ (l rest found : List ℕ) (count : ℕ) (r : Reading l rest found count
   reading_last None k h is few (inl bare) = reading_ends h bare
   reading_last None k h is few (inr full) = reading_full h (omega arith)
 
-pub ruleset reading = (reading_other, reading_start, reading_missing, reading_high, reading_more, reading_last)
+-- the same, where the line is read into a buffer of zeros: past the figures found there are zeros
+pub record Filling (l rest found : List ℕ) (count : ℕ) : Type 0 where
+  pub reading : Reading l rest found count
+  pub clear : found ≡ padded max_switches (take count found)
+
+module _ (l : List ℕ) where
+  pub filling_other : (found : List ℕ) → after (bytes "(set") l ≡ none → SetFilled l None found
+  unfolding SetIs SetFilled
+  filling_other = reading_other l
+
+  pub filling_start : (s found : List ℕ) → after (bytes "(set") l ≡ some s → found ≡ zeros max_switches → Filling l s found 0
+  unfolding padded max_switches
+  filling_start s found a clear =
+      record {
+        reading = reading_start l s found a (rw clear (length-replicate {A = ℕ} max_switches 0));
+        clear = clear;
+      }
+
+module _ (l rest found : List ℕ) (count : ℕ) (f : Filling l rest found count) where
+  module _ (s : List ℕ) (blank : after (bytes " ") rest ≡ some s) where
+    pub filling_missing : (figures : List ℕ) → take_figure s ≡ none → SetFilled l None figures
+    unfolding SetIs SetFilled
+    filling_missing = reading_missing l rest found count f.reading s blank
+
+    module _ (g : Figured) (h : take_figure s ≡ some g) where
+      pub filling_high : (figures : List ℕ) → 1 < g.figure → SetFilled l None figures
+      unfolding SetIs SetFilled
+      filling_high = reading_high l rest found count f.reading s blank g h
+
+      pub filling_more : count < max_switches → g.figure ≤ 1 → Filling l g.rest (set found count g.figure) (count + 1)
+      filling_more k low =
+          let long : count ≤ length found = omega (arith, f.reading.long) in
+          let t : take (count + 1) (set found count g.figure) ≡ take count found ++ (g.figure ∷ []) = take_more_set found count g.figure (omega (arith, f.reading.long)) in
+          record {
+            reading = reading_more l rest found count f.reading s blank g h k low;
+            clear = rw t (ap (λ (u : List ℕ). set u count g.figure) f.clear ∙ padded-set max_switches (take count found) count g.figure (length-take-le count found long) k);
+          }
+
+  pub filling_done : count ≤ max_switches → rest ≡ 41 ∷ [] → SetFilled l (Some count) found
+  unfolding SetIs SetFilled
+  filling_done few e = (few, (reading_done l rest found count f.reading few e).1, f.clear)
+
+  pub filling_last :
+      (o : std.Option ℕ) (k : ℕ)
+      → MatchOption o (rest ≡ 41 ∷ [] → ⊥) (λ n. (n ≡ k) × (rest ≡ 41 ∷ []))
+      → count ≡ k
+      → k ≤ max_switches
+      → (after (bytes " ") rest ≡ none) ⊎ (k ≡ max_switches)
+      → SetFilled l o found
+  unfolding SetIs SetFilled
+  filling_last (Some n) k h is few last = rw (h.0, ← is) (filling_done (omega arith) h.1)
+  filling_last None k h is few last = reading_last l rest found count f.reading None k h is few last
+
+pub ruleset reading = (
+  reading_other,
+  reading_start,
+  reading_missing,
+  reading_high,
+  reading_more,
+  reading_last,
+  filling_other,
+  filling_start,
+  filling_missing,
+  filling_high,
+  filling_more,
+  filling_last,
+)
 
 -- the lines after a set line are handed on as they are
 set_alone : (l : List ℕ) (ls : Lines) → set_line (l ⏎ ls) ≡ set_line (l ⏎ left []) then λ o. done (record { vals = o.vals; later = ls })
@@ -307,17 +370,30 @@ module _ (s : List ℕ) where
     unfolding SetIs ◌then◌
     set_done n h = whole ∙ rw h.1
 
-    pub set_buffer : (n : ℕ) → SetIs l (Some n) figures → figures ≡ buffer_of max_switches (λ t. t.vals) (set_line (lines_of s))
-    unfolding SetIs buffer_of
-    set_buffer n h = rw (set_done n h) h.2
+    -- and with its buffer
+    pub filled_refused : SetFilled l None figures → set_line (lines_of s) ≡ refused 1 1
+    unfolding SetIs SetFilled
+    filled_refused = set_refused
+
+    pub filled_done : (n : ℕ) → SetFilled l (Some n) figures → set_line (lines_of s) ≡ done (record { vals = take n figures; later = lines_of rest })
+    unfolding SetFilled ◌then◌
+    filled_done n h = whole ∙ rw h.1
+
+    pub set_buffer : (n : ℕ) → SetFilled l (Some n) figures → figures ≡ buffer_of max_switches (λ t. t.vals) (set_line (lines_of s))
+    unfolding SetFilled buffer_of
+    set_buffer n h = rw (filled_done n h) h.2
 
   -- the buffer of a refusal
   pub set_clear : (figures : List ℕ) → set_line (lines_of s) ≡ refused 1 1 → figures ≡ zeros max_switches → figures ≡ buffer_of max_switches (λ t. t.vals) (set_line (lines_of s))
   unfolding buffer_of
   set_clear figures h z = rw h z
 
-pub set_within : (l figures : List ℕ) (n : ℕ) → SetIs l (Some n) figures → n ≤ max_switches
+pub set_within : (l figures : List ℕ) (n : ℕ) → SetIs l (Some n) figures → n ≤ length figures
 unfolding SetIs
 set_within l figures n h = h.0
 
-pub ruleset first = (set_absent, set_refused, set_done, set_buffer, set_clear, set_within)
+pub filled_within : (l figures : List ℕ) (n : ℕ) → SetFilled l (Some n) figures → n ≤ max_switches
+unfolding SetFilled
+filled_within l figures n h = h.0
+
+pub ruleset first = (set_absent, set_refused, set_done, set_within, filled_refused, filled_done, set_buffer, set_clear, filled_within)

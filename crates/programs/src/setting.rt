@@ -6,7 +6,7 @@ ghost use Rattle.common.specs.Outcome.{done, refused, buffer_of};
 ghost use Rattle.figures.specs.Bytes.{bytes};
 ghost use Rattle.figures.specs.Line.{lines_of};
 ghost use Rattle.programs.specs.Programs.{set_line};
-ghost use Rattle.programs.specs.Setting.{SetIs};
+ghost use Rattle.programs.specs.Setting.{SetFilled};
 
 use common::MAX_SWITCHES;
 use figures::{after, first_line, take_figure};
@@ -24,7 +24,7 @@ fn ended(rest: &[u8], count: usize) -> Option<usize>
 #[tactic(auto, using(crate::proofs::SetLine::reading), unfolding(figures::specs::Bytes::bytes, common::specs::Limits::max_switches))]
 fn read_figures(line: &[u8], figures: &mut [u8; MAX_SWITCHES]) -> Option<usize>
     requires { figures.old ≡ zeros max_switches }
-    ensures { SetIs line.now result figures.new }
+    ensures { SetFilled line.now result figures.new }
 {
     let mut rest = after(line, b"(set")?;
     for (count, figure) in figures.iter_mut().enumerate() {

@@ -1,35 +1,16 @@
 -- `conduction::Lamp::reach` meets its contract: the wires up to the next four are sorted.
 use Prim.Native.Nat.{ℕ, ◌+◌, ◌-◌, ◌*◌, ◌/◌, ◌<◌, ◌≤◌}
 use mathlib.Core.Path.{◌≡◌, refl, sym, ap, ◌∙◌}
-use mathlib.Core.Logic.{⊎_elim}
-use mathlib.Core.Bool.{Bool, true, false}
+use mathlib.Core.Bool.{Bool}
 use mathlib.Core.List.{List}
 use native.Mathlib.Omega.{arith}
-use lib.ListN.{length, get_or}
-use lib.Dec.{eqb}
-use borrow.Author.Tests.{eqb-true}
-use Rattle.std.specs.List.{list_all}
-use Rattle.std.proofs.lemmas.Bool.{cases_Bool}
-use Rattle.std.proofs.lemmas.List.Folds.{list_all_at}
+use lib.ListN.{length}
 use Rattle.conduction.specs.declared.Key.{Key}
-use Rattle.conduction.specs.declared.Lamp.{Lamp}
-use Rattle.conduction.specs.Wires.{no_key, passes, Sorted}
+use Rattle.conduction.specs.Wires.{no_key, Sorted}
 use Rattle.conduction.proofs.Sorting.{exchanged_all, sorted_none, sorted_pass, sorted_on, part_long, part_entry}
+use Rattle.conduction.proofs.Parts.{off_keys}
 use Rattle.conduction.proofs.Lamp.reach.Goals as goal
 use Rattle.conduction.proofs.Lamp.reach.Goals.{then-not-all_off, else-not-all_off}
-
--- off does not conduct
-off_dark :
-    (lamp : Lamp) (keys : List Key) → list_all (λ k. eqb (get_or lamp.cells.now k.adds 0) 0) keys ≡ true
-    → (k : ℕ) → k < length keys → passes lamp (get_or keys k no_key).adds ≡ false
-unfolding passes
-off_dark lamp keys all k h =
-    let off = λ (w : Key). eqb (get_or lamp.cells.now w.adds 0) 0 in
-    let code = get_or lamp.cells.now (get_or keys k no_key).adds 0 in
-    ⊎_elim
-    (λ (t : off (get_or keys k no_key) ≡ true). let zero : code ≡ 0 = eqb-true code 0 t in rw zero lamp.off)
-    (λ (f : off (get_or keys k no_key) ≡ false). let e = list_all_at off keys k no_key h f in absurd cc)
-    (cases_Bool (off (get_or keys k no_key)))
 
 -- a part that ends at the same place
 sorted_up :
@@ -66,7 +47,7 @@ loop-i-preserved c =
             let in_part : at + 4 ≤ length keys = omega (arith, inv.0) in
             let there : at + (k - at) ≡ k = omega arith in
             let entry = part_entry keys at (at + 4) (k - at) no_key (omega arith) in
-            rw (entry, there) at (off_dark c.args.self _ (sym c.all_off.ensures ∙ w.if-not-all_off.false) (k - at) (omega (arith, part_long keys at (at + 4) in_part))))),
+            rw (entry, there) at (off_keys c.args.self _ (sym c.all_off.ensures ∙ w.if-not-all_off.false) (k - at) (omega (arith, part_long keys at (at + 4) in_part))))),
       )
     ]
 
