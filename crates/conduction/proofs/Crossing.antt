@@ -235,10 +235,10 @@ module _
       placed _ _ _ _ _ _ _ _ _ _ _ _ _ _ _ back_sides (standing.odd parity) (omega (arith, fits.wires_fit)),
     )
 
-    -- and where the wires of the front begin, whether or not a wire is dark
     row_within : (r : ℕ) → r < length rows → r ≤ length rows
     row_within r h = omega arith
 
+    -- what the wires of the front add, also where no wire of the other side is dark
     pub begins_across :
         t % 2 ≡ 0 → (j : ℕ) → j < length (part rows head tail) → (get_or (part rows head tail) j no_key).adds ≤ length lamp.cells.now
     begins_across parity =

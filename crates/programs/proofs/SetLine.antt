@@ -370,7 +370,7 @@ module _ (s : List ℕ) where
     unfolding SetIs ◌then◌
     set_done n h = whole ∙ rw h.1
 
-    -- and with its buffer
+    -- the same where a buffer of zeros was filled, and what that buffer holds
     pub filled_refused : SetFilled l None figures → set_line (lines_of s) ≡ refused 1 1
     unfolding SetIs SetFilled
     filled_refused = set_refused
